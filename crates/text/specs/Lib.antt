@@ -1,0 +1,11 @@
+pub mod Text
+pub mod Walk
+pub mod Runs
+pub mod First
+pub mod Every
+pub mod Tests
+pub mod TextLaws
+pub mod WalkLaws
+pub mod FirstLaws
+pub mod One
+pub mod Unique
