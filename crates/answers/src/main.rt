@@ -1,0 +1,11 @@
+// Answers questions: a line of standard output for each line of standard input.
+mod fields;
+mod floors;
+mod lines;
+mod questions;
+mod write;
+
+fn main() {
+    let t = names::table::table();
+    lines::serve(&t);
+}

@@ -1,0 +1,76 @@
+// The dispatch: how many fields a line has says what they are, and its word which question it is.
+// So a question is a function of what its fields stand for, and a test of the word among those with as many fields.
+ghost use mathlib.Core.Path.{_≡_};
+ghost use Rattle.names.specs.Layout.{words};
+use crate::fields;
+use crate::fields::Decimal;
+use crate::fields::Decoded;
+use crate::fields::MOST;
+use crate::floors;
+use crate::write;
+use crate::write::Out;
+
+// WORD TEXT
+fn on_text(t: &[u64], word: &[u8], s: &[u8], out: &mut Out, at: usize) -> usize
+    requires { ⌜ now t ≡ words ⌝ }
+{
+    if text::equal(word, b"utf8") {
+        return floors::utf8(s, out, at);
+    }
+    if text::equal(word, b"licence") {
+        return floors::licence(t, s, out, at);
+    }
+    if text::equal(word, b"exception") {
+        return floors::exception(t, s, out, at);
+    }
+    if text::equal(word, b"imprecise") {
+        return floors::imprecise(t, s, out, at);
+    }
+    write::unknown(out, at)
+}
+
+// WORD NUMBER TEXT
+fn on_number_text(word: &[u8], x: u64, s: &[u8], out: &mut Out, at: usize) -> usize {
+    if text::equal(word, b"char") {
+        return floors::char(x, s, out, at);
+    }
+    if text::equal(word, b"past") {
+        return floors::past(x, s, out, at);
+    }
+    if text::equal(word, b"inside") {
+        return floors::inside(x, s, out, at);
+    }
+    write::unknown(out, at)
+}
+
+fn with_text(t: &[u64], line: &[u8], bytes: &mut Decoded, out: &mut Out, at: usize) -> usize
+    requires { ⌜ now t ≡ words ⌝ }
+{
+    let n = fields::bytes(fields::field(line, 1), bytes);
+    if n > MOST {
+        return write::unknown(out, at);
+    }
+    on_text(t, fields::field(line, 0), text::cut(bytes, 0, n), out, at)
+}
+
+fn with_number_text(line: &[u8], bytes: &mut Decoded, out: &mut Out, at: usize) -> usize {
+    let Decimal::Of(x) = fields::number(fields::field(line, 1)) else {
+        return write::unknown(out, at);
+    };
+    let n = fields::bytes(fields::field(line, 2), bytes);
+    if n > MOST {
+        return write::unknown(out, at);
+    }
+    on_number_text(fields::field(line, 0), x, text::cut(bytes, 0, n), out, at)
+}
+
+// Answers a line.
+pub(crate) fn answer(t: &[u64], line: &[u8], bytes: &mut Decoded, out: &mut Out, at: usize) -> usize
+    requires { ⌜ now t ≡ words ⌝ }
+{
+    match fields::spaces(line) {
+        1 => with_text(t, line, bytes, out, at),
+        2 => with_number_text(line, bytes, out, at),
+        _ => write::unknown(out, at),
+    }
+}

@@ -1,0 +1,53 @@
+// Answers, written one after the other into out. A field is put with the space before it.
+ghost use mathlib.Core.Path.{_≡_};
+ghost use Rattle.names.specs.Layout.{words};
+
+// Twice as much as the longest answer takes.
+pub(crate) const ROOM: usize = 131072;
+
+pub(crate) type Out = [u8; ROOM];
+
+// Puts one byte, as long as there is room. There is: when an answer starts, half of out is free.
+pub(crate) fn byte(out: &mut Out, at: usize, b: u8) -> usize {
+    if at < ROOM {
+        out[at] = b;
+        return at + 1;
+    }
+    at
+}
+
+pub(crate) fn bytes(out: &mut Out, at: usize, s: &[u8]) -> usize {
+    let mut n = at;
+    let mut i = 0;
+    while i < s.len() {
+        n = byte(out, n, s[i]);
+        i += 1;
+    }
+    n
+}
+
+// The answer to a line that is no question.
+pub(crate) fn unknown(out: &mut Out, at: usize) -> usize {
+    byte(out, at, b'?')
+}
+
+pub(crate) fn number(out: &mut Out, at: usize, x: u64) -> usize {
+    let mut digits = [0u8; 20];
+    let k = io::decimal(x, &mut digits);
+    let n = byte(out, at, b' ');
+    bytes(out, n, &digits[..k])
+}
+
+// Puts the name k of the table.
+pub(crate) fn name(out: &mut Out, at: usize, t: &[u64], k: usize) -> usize
+    requires { ⌜ now t ≡ words ⌝ }
+{
+    let len = names::name_len(t, k);
+    let mut n = byte(out, at, b' ');
+    let mut i = 0;
+    while i < len {
+        n = byte(out, n, names::name_byte(t, k, i));
+        i += 1;
+    }
+    n
+}
