@@ -6,6 +6,7 @@ pub mod Every
 pub mod Tests
 pub mod TextLaws
 pub mod WalkLaws
+pub mod RunLaws
 pub mod FirstLaws
 pub mod One
 pub mod Unique
