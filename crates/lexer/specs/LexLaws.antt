@@ -1,0 +1,66 @@
+-- What the code of a step needs of its definitions.
+use Prim.Native.Nat.{ℕ, _<_}
+use mathlib.Core.Path.{_≡_}
+use mathlib.Core.Bool.{Bool, true, false, _&&_, _||_}
+use mathlib.Core.List.{List}
+use native.Mathlib.Omega.{arith}
+use lib.ListN.{length, getD, drop}
+use lib.Dec.{eqb}
+use borrow.Author.Tests.{eqb-true}
+use Rattle.text.specs.Text.{ascii, begins, same}
+use Rattle.text.specs.Tests.{both, by-cond}
+use Rattle.text.specs.TextLaws.{byte-in}
+use Rattle.refusal.specs.declared.Span.{Span}
+use Rattle.lexer.specs.declared.Doc.{Doc}
+use Rattle.lexer.specs.declared.Doc.the-variants.{Absent, Part}
+use Rattle.lexer.specs.declared.Token.{Token}
+use Rattle.lexer.specs.declared.Token.the-variants.{And, Or, With}
+use Rattle.lexer.specs.declared.Word.{Word}
+use Rattle.lexer.specs.declared.Word.the-variants.{Is, Not}
+use Rattle.lexer.specs.Lex.{refEnd, orElse, operatorOf}
+use Rattle.lexer.specs.Shape.{documentOf}
+
+-- the operators, by what the comparisons say
+module _ (r : List ℕ) (e : ℕ) where
+  abbrev spelt : List ℕ → List ℕ → Bool
+  spelt v w = same r v || same r w
+
+  pub operator-and : spelt (ascii "AND") (ascii "and") ≡ true → Is And e ≡ operatorOf r e
+  unfolding operatorOf
+  operator-and x = simp x
+
+  pub operator-or : spelt (ascii "AND") (ascii "and") ≡ false → spelt (ascii "OR") (ascii "or") ≡ true → Is Or e ≡ operatorOf r e
+  unfolding operatorOf
+  operator-or x y = simp (x, y)
+
+  pub operator-with : spelt (ascii "AND") (ascii "and") ≡ false → spelt (ascii "OR") (ascii "or") ≡ false
+      → spelt (ascii "WITH") (ascii "with") ≡ true → Is With e ≡ operatorOf r e
+  unfolding operatorOf
+  operator-with x y z = simp (x, y, z)
+
+  pub operator-not : spelt (ascii "AND") (ascii "and") ≡ false → spelt (ascii "OR") (ascii "or") ≡ false
+      → spelt (ascii "WITH") (ascii "with") ≡ false → Not ≡ operatorOf r e
+  unfolding operatorOf
+  operator-not x y z = simp (x, y, z)
+
+-- a function that tries a, and then b where a says nothing
+pub or-is : (w a b : Word) (t : Token) (e : ℕ) → w ≡ a → w ≡ Is t e → w ≡ orElse a b
+or-is w a b t e p q = simp (← p, q)
+
+pub or-not : (w a b z : Word) → w ≡ a → w ≡ Not → z ≡ b → z ≡ orElse a b
+or-not w a b z p q r = simp (← p, q) r
+
+-- a document part ends inside the text, at its `:`
+abbrev DocIn : List ℕ → Doc → Type 0
+DocIn s Absent = Unit {0}
+DocIn s (Part d) = d .end < length s
+
+doc-in : (s : List ℕ) (p : ℕ) → DocIn s (documentOf s p)
+unfolding documentOf
+doc-in s p =
+    by-cond (DocIn s) (begins (ascii "DocumentRef-") (drop p s) && eqb (getD s (refEnd s p) 0) 0x3A) _ _
+    (λ e. byte-in s (refEnd s p) 0x3A (eqb-true _ _ (both (begins (ascii "DocumentRef-") (drop p s)) _ e .1)) (omega arith))
+    (λ e. tt)
+
+pub document-in : (s : List ℕ) (p : ℕ) (d : Span) → documentOf s p ≡ Part d → d .end < length s
+document-in s p d e = rw e at (doc-in s p)

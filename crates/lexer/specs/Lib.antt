@@ -1,0 +1,12 @@
+pub mod Lex
+pub mod Tokens
+pub mod Shape
+pub mod LexLaws
+pub mod RunLaws
+pub mod Ahead
+pub mod Agree
+pub mod Between
+pub mod TokensLaws
+pub mod Flags
+pub mod Worked
+pub mod Unique
