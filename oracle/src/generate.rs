@@ -91,6 +91,7 @@ fn step_boundaries() -> Vec<String> {
         questions.extend(MODES.map(|flags| step_question(flags, 0, &text)));
         questions.push(step_question(LAX, text.len() as u64, &text));
         questions.push(step_question(LAX, text.len() as u64 + 1, &text));
+        questions.extend(resumed(&text, LARGEST_MODE).map(|place| step_question(LARGEST_MODE, place, &text)));
     }
     // Every place in a text with characters of every width, and places that fit no memory.
     let mixed = "MIT\u{a0}+ \u{2003}é€😀 DocumentRef-a:LicenseRef-b:c".as_bytes();
@@ -98,6 +99,12 @@ fn step_boundaries() -> Vec<String> {
         questions.push(step_question(LARGEST_MODE, place, mixed));
     }
     questions
+}
+
+/// Where the second and the third step begin, and one byte further, which is likely to be in white space.
+fn resumed(text: &[u8], flags: u8) -> impl Iterator<Item = u64> + use<> {
+    let words = document::checked_text(text).map_or(Vec::new(), |text| given::words(text, flags).0);
+    words.into_iter().take(2).flat_map(|word| [word.span.end as u64, word.span.end as u64 + 1])
 }
 
 fn random_step(random: &mut Random) -> String {

@@ -5,7 +5,6 @@ use crate::write;
 use crate::write::Out;
 use names::Found;
 use names::Loose;
-use names::table::LICENCES;
 
 // utf8 TEXT: well, or ill P.
 pub(crate) fn utf8(s: &[u8], out: &mut Out, at: usize) -> usize {
@@ -94,7 +93,7 @@ pub(crate) fn licence(t: &[u64], s: &[u8], out: &mut Out, at: usize) -> usize
     }
 }
 
-// exception TEXT: listed NAME, or none. In the table the exceptions stand after the licences.
+// exception TEXT: listed NAME, or none.
 pub(crate) fn exception(t: &[u64], s: &[u8], out: &mut Out, at: usize) -> usize
     requires { ⌜ now t ≡ words ⌝ }
 {
@@ -102,7 +101,7 @@ pub(crate) fn exception(t: &[u64], s: &[u8], out: &mut Out, at: usize) -> usize
         return write::bytes(out, at, b"none");
     };
     let n = write::bytes(out, at, b"listed");
-    write::name(out, n, t, LICENCES + k)
+    write::exception(out, n, t, k)
 }
 
 // imprecise TEXT: stands NAME LEN, or none.

@@ -3,6 +3,8 @@ mod fields;
 mod floors;
 mod lines;
 mod questions;
+mod refusals;
+mod tokens;
 mod write;
 
 fn main() {

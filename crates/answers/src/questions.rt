@@ -7,6 +7,7 @@ use crate::fields::Decimal;
 use crate::fields::Decoded;
 use crate::fields::MOST;
 use crate::floors;
+use crate::tokens;
 use crate::write;
 use crate::write::Out;
 
@@ -43,6 +44,24 @@ fn on_number_text(word: &[u8], x: u64, s: &[u8], out: &mut Out, at: usize) -> us
     write::unknown(out, at)
 }
 
+// WORD NUMBER NUMBER TEXT
+fn on_numbers_text(
+    t: &[u64],
+    word: &[u8],
+    x: u64,
+    y: u64,
+    s: &[u8],
+    out: &mut Out,
+    at: usize,
+) -> usize
+    requires { ⌜ now t ≡ words ⌝ }
+{
+    if text::equal(word, b"step") {
+        return tokens::step(t, x, y, s, out, at);
+    }
+    write::unknown(out, at)
+}
+
 fn with_text(t: &[u64], line: &[u8], bytes: &mut Decoded, out: &mut Out, at: usize) -> usize
     requires { ⌜ now t ≡ words ⌝ }
 {
@@ -64,6 +83,30 @@ fn with_number_text(line: &[u8], bytes: &mut Decoded, out: &mut Out, at: usize) 
     on_number_text(fields::field(line, 0), x, text::cut(bytes, 0, n), out, at)
 }
 
+fn with_numbers_text(t: &[u64], line: &[u8], bytes: &mut Decoded, out: &mut Out, at: usize) -> usize
+    requires { ⌜ now t ≡ words ⌝ }
+{
+    let Decimal::Of(x) = fields::number(fields::field(line, 1)) else {
+        return write::unknown(out, at);
+    };
+    let Decimal::Of(y) = fields::number(fields::field(line, 2)) else {
+        return write::unknown(out, at);
+    };
+    let n = fields::bytes(fields::field(line, 3), bytes);
+    if n > MOST {
+        return write::unknown(out, at);
+    }
+    on_numbers_text(
+        t,
+        fields::field(line, 0),
+        x,
+        y,
+        text::cut(bytes, 0, n),
+        out,
+        at,
+    )
+}
+
 // Answers a line.
 pub(crate) fn answer(t: &[u64], line: &[u8], bytes: &mut Decoded, out: &mut Out, at: usize) -> usize
     requires { ⌜ now t ≡ words ⌝ }
@@ -71,6 +114,7 @@ pub(crate) fn answer(t: &[u64], line: &[u8], bytes: &mut Decoded, out: &mut Out,
     match fields::spaces(line) {
         1 => with_text(t, line, bytes, out, at),
         2 => with_number_text(line, bytes, out, at),
+        3 => with_numbers_text(t, line, bytes, out, at),
         _ => write::unknown(out, at),
     }
 }

@@ -1,6 +1,9 @@
 // Answers, written one after the other into out. A field is put with the space before it.
 ghost use mathlib.Core.Path.{_≡_};
 ghost use Rattle.names.specs.Layout.{words};
+use names::table::LICENCES;
+use names::table::NAMES;
+use refusal::Span;
 
 // Twice as much as the longest answer takes.
 pub(crate) const ROOM: usize = 131072;
@@ -31,11 +34,21 @@ pub(crate) fn unknown(out: &mut Out, at: usize) -> usize {
     byte(out, at, b'?')
 }
 
-pub(crate) fn number(out: &mut Out, at: usize, x: u64) -> usize {
+fn decimal(out: &mut Out, at: usize, x: u64) -> usize {
     let mut digits = [0u8; 20];
     let k = io::decimal(x, &mut digits);
+    bytes(out, at, &digits[..k])
+}
+
+pub(crate) fn number(out: &mut Out, at: usize, x: u64) -> usize {
     let n = byte(out, at, b' ');
-    bytes(out, n, &digits[..k])
+    decimal(out, n, x)
+}
+
+pub(crate) fn range(out: &mut Out, at: usize, span: Span) -> usize {
+    let n = number(out, at, span.start as u64);
+    let m = bytes(out, n, b"..");
+    decimal(out, m, span.end as u64)
 }
 
 // Puts the name k of the table.
@@ -50,4 +63,15 @@ pub(crate) fn name(out: &mut Out, at: usize, t: &[u64], k: usize) -> usize
         i += 1;
     }
     n
+}
+
+// Puts the name of the exception k: in the table the exceptions stand after the licences.
+pub(crate) fn exception(out: &mut Out, at: usize, t: &[u64], k: usize) -> usize
+    requires { ⌜ now t ≡ words ⌝ }
+{
+    if k < NAMES {
+        name(out, at, t, LICENCES + k)
+    } else {
+        byte(out, at, b' ')
+    }
 }
