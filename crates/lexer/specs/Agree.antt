@@ -1,6 +1,6 @@
 -- When a text may be read, what the public step answers where it may not, and that the two steps agree where it may.
 use Prim.Native.Nat.{ℕ, _+_, _<_, _≤_}
-use mathlib.Core.Path.{_≡_, _∙_, ap}
+use mathlib.Core.Path.{_≡_, sym, _∙_, ap}
 use mathlib.Core.Bool.{Bool, true, cond, _||_, or-true}
 use mathlib.Core.List.{List}
 use native.Mathlib.Omega.{arith}
@@ -19,6 +19,7 @@ use Rattle.lexer.specs.declared.Checked.{Checked}
 use Rattle.lexer.specs.declared.Checked.the-variants.{Fine, Bad}
 use Rattle.lexer.specs.declared.Step.the-variants.{Refused}
 use Rattle.lexer.specs.Lex.{scanOf, checkOf, fromOf, ifFine, stepOf}
+use Rattle.lexer.specs.LexLaws.{from-out, from-in}
 
 -- a text that is refused may not be read
 bad-fine : {A : Type 0} (r : Refusal) → Bad r ≡ Fine → A
@@ -75,8 +76,7 @@ module _ (s : List ℕ) where
     step-fine e = ap (λ (c : Checked). ifFine c (fromOf s m at)) e
 
     step-place : checkOf s ≡ Fine → (ltb (length s) at || insideOf s at) ≡ true → stepOf s m at ≡ Refused (BadCursor at)
-    unfolding fromOf
-    step-place e q = step-fine e ∙ cond-true (ltb (length s) at || insideOf s at) _ _ q
+    step-place e q = step-fine e ∙ sym (from-out s m at q)
 
     -- it refuses a place past the end
     pub step-past : checkOf s ≡ Fine → length s < at → stepOf s m at ≡ Refused (BadCursor at)
@@ -88,8 +88,7 @@ module _ (s : List ℕ) where
 
     -- from a place between two characters it is the step in a text that was checked
     pub step-scan : checkOf s ≡ Fine → Boundary s at → stepOf s m at ≡ scanOf s m at
-    unfolding fromOf
     step-scan e b =
         step-fine e
-        ∙ cond-false (ltb (length s) at || insideOf s at) _ _
-        (ap (λ (q : Bool). q || insideOf s at) (le-ltb (length s) at (boundary-le b)) ∙ boundary-out (fine-well e) b)
+        ∙ sym (from-in s m at
+        (ap (λ (q : Bool). q || insideOf s at) (le-ltb (length s) at (boundary-le b)) ∙ boundary-out (fine-well e) b))

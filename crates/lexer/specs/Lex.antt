@@ -56,14 +56,16 @@ abbrev pub found : (ℕ → Token) → ℕ → Found → Word
 found kind e (At k) = Is (kind k) e
 found kind e Nothing = Not
 
--- "LicenseRef", and "AdditionRef": the prefix w at a place q, and a name after it, which may be empty
+-- "LicenseRef", and "AdditionRef": the prefix w at a place q, and a name after it, which may be empty. A prefix is made of run bytes, so
+-- what stands at q in the text stands there in the run.
 unfoldable pub refOf : (Doc → Span → Token) → List ℕ → Doc → List ℕ → ℕ → Word
 refOf kind w d s q =
     cond (begins w (drop q s))
     (Is (kind d (span (q + length w) (refEnd s (q + length w)))) (refEnd s (q + length w)))
     Not
 
--- "DocumentRef with" one of them: "DocumentRef forms split at the first `:`", and behind it stands the reference
+-- "DocumentRef with" one of them: "DocumentRef forms split at the first `:`", which is where refEnd from p on ends, if the run has one;
+-- behind it stands the reference
 unfoldable pub documented : (Doc → Span → Token) → List ℕ → List ℕ → ℕ → Word
 documented kind w s p =
     cond (begins (ascii "DocumentRef-") (drop p s) && eqb (getD s (refEnd s p) 0) 0x3A)

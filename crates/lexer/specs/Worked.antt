@@ -142,7 +142,10 @@ table =
     ∷ (steps strict (ascii "MIT " ++ é), lic "MIT" 0 3 (at 3 4 6))
     ∷ (steps strict (ascii "MIT " ++ (0xE9 ∷ [])), at 1 4 5)
     ∷ (steps strict (ascii "GPL-3.0-or-later+"), lic "GPL-3.0-or-later" 0 16 (tok plus 16 17 end))
-    ∷ (steps strict (ascii "(MIT AND ISC)"), tok opens 0 1 (lic "MIT" 1 4 (tok and 5 8 (lic "ISC" 9 12 (tok closes 12 13 end)))))
+    ∷ (
+      steps strict (ascii "(MIT AND ISC) OR 0BSD"),
+      tok opens 0 1 (lic "MIT" 1 4 (tok and 5 8 (lic "ISC" 9 12 (tok closes 12 13 (tok or 14 16 (lic "0BSD" 17 21 end)))))),
+    )
     ∷ (
       steps lax (ascii "apache with LLVM-exception/gpl-3.0+ and gplv2"),
       lic "Apache-2.0" 0 6 (tok with 7 11 (tok (exception (ascii "LLVM-exception")) 12 26 (tok or 26 27

@@ -1,7 +1,9 @@
 // From bytes to tokens: a cursor by value whose step hands the next cursor back.
 ghost use mathlib.Core.Path.{_≡_};
 ghost use Prim.Native.Nat.{_≤_};
+ghost use mathlib.Core.Bool.{_||_};
 ghost use lib.ListN.{length, drop};
+ghost use Rattle.text.specs.Text.{same};
 ghost use Rattle.text.specs.Runs.{refByte, runByte};
 ghost use Rattle.text.specs.Walk.{one};
 ghost use Rattle.names.specs.Layout.{words};
@@ -119,16 +121,23 @@ fn run_end(s: &[u8], from: usize) -> usize
     }
 }
 
+// Is a run spelled in one of two ways?
+fn spelled(run: &[u8], upper: &[u8], lower: &[u8]) -> bool
+    ensures { λ r. ⌜ r ≡ (same (now (run .entry)) (now (upper .entry)) || same (now (run .entry)) (now (lower .entry))) ⌝ }
+{
+    text::equal(run, upper) | text::equal(run, lower)
+}
+
 fn operator(run: &[u8], e: usize) -> Word
     ensures { λ r. ⌜ r ≡ operatorOf (now (run .entry)) e ⌝ }
 {
-    if text::equal(run, b"AND") | text::equal(run, b"and") {
+    if spelled(run, b"AND", b"and") {
         return Word::Is(Token::And, e);
     }
-    if text::equal(run, b"OR") | text::equal(run, b"or") {
+    if spelled(run, b"OR", b"or") {
         return Word::Is(Token::Or, e);
     }
-    if text::equal(run, b"WITH") | text::equal(run, b"with") {
+    if spelled(run, b"WITH", b"with") {
         return Word::Is(Token::With, e);
     }
     Word::Not
