@@ -337,7 +337,7 @@ fn mark(t: &[u64], m: Mode, s: &[u8], at: usize, p: usize) -> Step
     run(t, m, s, p)
 }
 
-// The step in a text that was checked, from a place between two characters: what is read above is checked once.
+// The step in a text that was checked, from a place between two characters: who reads a whole text checks it once.
 pub fn scan(t: &[u64], m: Mode, s: &[u8], at: usize) -> Step
     requires { ⌜ now t ≡ words ⌝ }
     ensures { λ r. ⌜ r ≡ scanOf (now (s .entry)) m at ⌝ }
