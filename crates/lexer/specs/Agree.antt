@@ -1,6 +1,6 @@
 -- When a text may be read, what the public step answers where it may not, and that the two steps agree where it may.
 use Prim.Native.Nat.{ℕ, _+_, _<_, _≤_}
-use mathlib.Core.Path.{_≡_, sym, _∙_, ap}
+use mathlib.Core.Path.{_≡_, refl, sym, _∙_, ap}
 use mathlib.Core.Bool.{Bool, true, cond, _||_, or-true}
 use mathlib.Core.List.{List}
 use native.Mathlib.Omega.{arith}
@@ -76,7 +76,7 @@ module _ (s : List ℕ) where
     step-fine e = ap (λ (c : Checked). ifFine c (fromOf s m at)) e
 
     step-place : checkOf s ≡ Fine → (ltb (length s) at || insideOf s at) ≡ true → stepOf s m at ≡ Refused (BadCursor at)
-    step-place e q = step-fine e ∙ sym (from-out s m at q)
+    step-place e q = step-fine e ∙ sym (from-out s m at (insideOf s at) refl q)
 
     -- it refuses a place past the end
     pub step-past : checkOf s ≡ Fine → length s < at → stepOf s m at ≡ Refused (BadCursor at)
@@ -90,5 +90,5 @@ module _ (s : List ℕ) where
     pub step-scan : checkOf s ≡ Fine → Boundary s at → stepOf s m at ≡ scanOf s m at
     step-scan e b =
         step-fine e
-        ∙ sym (from-in s m at
+        ∙ sym (from-in s m at (insideOf s at) refl
         (ap (λ (q : Bool). q || insideOf s at) (le-ltb (length s) at (boundary-le b)) ∙ boundary-out (fine-well e) b))

@@ -90,15 +90,15 @@ module _ (s : List ℕ) (m : Mode) (at p : ℕ) where
     unfolding markOf
     mark-run e = simp (lt-leb (length s) p h, ne-eqb (getD s p 0) 0x2B plus, ne-eqb (getD s p 0) 0x28 opens, ne-eqb (getD s p 0) 0x29 closes, e)
 
--- the step from any place, by whether it is one between two characters
-module _ (s : List ℕ) (m : Mode) (at : ℕ) where
-  pub from-out : (ltb (length s) at || insideOf s at) ≡ true → Refused (BadCursor at) ≡ fromOf s m at
+-- the step from any place, by whether it is one between two characters: x says if it is inside a character
+module _ (s : List ℕ) (m : Mode) (at : ℕ) (x : Bool) (inside : x ≡ insideOf s at) where
+  pub from-out : (ltb (length s) at || x) ≡ true → Refused (BadCursor at) ≡ fromOf s m at
   unfolding fromOf
-  from-out e = simp e
+  from-out e = simp (← inside, e)
 
-  pub from-in : (ltb (length s) at || insideOf s at) ≡ false → scanOf s m at ≡ fromOf s m at
+  pub from-in : (ltb (length s) at || x) ≡ false → scanOf s m at ≡ fromOf s m at
   unfolding fromOf
-  from-in e = simp e
+  from-in e = simp (← inside, e)
 
 -- a document part ends inside the text, at its `:`
 abbrev DocIn : List ℕ → Doc → Type 0

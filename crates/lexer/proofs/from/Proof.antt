@@ -9,8 +9,10 @@ from-spec =
     tie.close
     (tie.spec
     (λ c κs. search needs)
-    (λ c. from-out _ _ _ (cc))
+    (λ c. from-out _ _ _ _ (c .before .inside .ensures) (c .if1 .taken))
     (λ c κs. search needs)
     (λ c. search needs)
     (λ c κs. search needs)
-    (λ c. c .scan .ensures ∙ from-in _ _ _ (cc)))
+    (λ c.
+    let i = c .before .before .before in
+    c .scan .ensures ∙ from-in _ _ _ _ (i .before .inside .ensures) (i .if1 .left)))
