@@ -1,14 +1,14 @@
 -- Tokens, and what the lexer refuses, start and end between characters. For the public step that needs no premise.
 use Prim.Native.Nat.{ℕ, _+_, _<_, _≤_}
 use mathlib.Core.Path.{_≡_, refl}
-use mathlib.Core.Bool.{Bool, true, false, _||_, true≢false}
+use mathlib.Core.Bool.{_||_}
 use mathlib.Core.List.{List}
 use native.Mathlib.Decide.{decLt}
 use native.Mathlib.Omega.{arith}
 use lib.Dec.{ltb}
 use lib.ListN.{length, getD}
 use borrow.Author.Tests.{ltb-true, ltb-false}
-use Rattle.text.specs.Tests.{by-cond}
+use Rattle.text.specs.Tests.{by-cond, neither}
 use Rattle.text.specs.Runs.{runByte}
 use Rattle.text.specs.RunLaws.{run-ascii}
 use Rattle.utf8.specs.Utf8.{firstIll, insideOf, pastWhite}
@@ -119,10 +119,6 @@ module _ (s : List ℕ) (m : Mode) (at : ℕ) where
       by-cond (Between s) (ltb (length s) at || insideOf s at) _ _ (λ x. tt)
       (λ x. let w = neither (ltb (length s) at) (insideOf s at) x in
       scan-between f (out-boundary f (ltb-false (length s) at (w .0)) (w .1)))
-    where
-      neither : (x y : Bool) → (x || y) ≡ false → (x ≡ false) × (y ≡ false)
-      neither true y e = absurd (true≢false e)
-      neither false y e = (refl, e)
 
   -- so they are by the public step, in any bytes and from any place: the check and refusal 20 see to it
   pub step-between : Between s (stepOf s m at)

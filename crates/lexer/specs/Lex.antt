@@ -1,6 +1,6 @@
 -- One step of the lexer. Document 01, "From bytes to tokens", sentence by sentence, with refusals 1 to 5 and 20 and their order.
 use Prim.Native.Nat.{ℕ, _+_}
-use mathlib.Core.Bool.{Bool, cond, _&&_, _||_}
+use mathlib.Core.Bool.{cond, _&&_, _||_}
 use mathlib.Core.List.{List}
 use lib.ListN.{length, getD, drop}
 use lib.Dec.{eqb, leb, ltb}
@@ -15,14 +15,12 @@ use Rattle.names.specs.declared.Loose.{Loose}
 use Rattle.names.specs.declared.Loose.the-variants.{Hit, Miss}
 use Rattle.refusal.specs.Refused.{span}
 use Rattle.refusal.specs.declared.Span.{Span}
-use Rattle.refusal.specs.declared.Refusal.{Refusal}
 use Rattle.refusal.specs.declared.Refusal.the-variants.{NotUtf8, TooLong, InvalidCharacters, UnknownTerm, SeparatedPlus, BadCursor}
 use Rattle.mode.specs.declared.Mode.{Mode}
 use Rattle.lexer.specs.declared.Doc.{Doc}
 use Rattle.lexer.specs.declared.Doc.the-variants.{Absent, Part}
 use Rattle.lexer.specs.declared.Token.{Token}
 use Rattle.lexer.specs.declared.Token.the-variants.{And, Or, With, Plus, Open, Close, Licence, Exception, LicenseRef, AdditionRef, Unknown}
-use Rattle.lexer.specs.declared.Cursor.{Cursor}
 use Rattle.lexer.specs.declared.Word.{Word}
 use Rattle.lexer.specs.declared.Word.the-variants.{Is, Not}
 use Rattle.lexer.specs.declared.Checked.{Checked}

@@ -1,14 +1,14 @@
 -- What the code of a step needs of its definitions.
 use Prim.Native.Nat.{ℕ, _+_, _<_, _≤_}
-use mathlib.Core.Path.{_≡_}
-use mathlib.Core.Bool.{Bool, true, false, _&&_, _||_}
+use mathlib.Core.Path.{_≡_, sym, _∙_}
+use mathlib.Core.Bool.{Bool, true, false, cond, _&&_, _||_}
 use mathlib.Core.List.{List}
 use native.Mathlib.Omega.{arith}
 use lib.ListN.{length, getD, drop}
-use lib.Dec.{eqb, leb, ltb}
+use lib.Dec.{eqb, ltb}
 use borrow.Author.Tests.{eqb-true, eq-eqb, ne-eqb, le-leb, lt-leb}
 use Rattle.text.specs.Text.{ascii, begins, same}
-use Rattle.text.specs.Tests.{both, by-cond}
+use Rattle.text.specs.Tests.{both, by-cond, cond-true, cond-false}
 use Rattle.text.specs.TextLaws.{byte-in}
 use Rattle.utf8.specs.Utf8.{insideOf}
 use Rattle.refusal.specs.Refused.{span}
@@ -82,13 +82,16 @@ module _ (s : List ℕ) (m : Mode) (at p : ℕ) where
 
   -- none of these
   module _ (h : p < length s) (plus : Here 0x2B → ⊥) (opens : Here 0x28 → ⊥) (closes : Here 0x29 → ⊥) where
-    pub mark-slash : (eqb (getD s p 0) 0x2F && m .slash) ≡ true → got m Or p (p + 1) ≡ markOf s m at p
+    mark-else : markOf s m at p ≡ cond (eqb (getD s p 0) 0x2F && m .slash) (got m Or p (p + 1)) (runOf s m p)
     unfolding markOf
-    mark-slash e = simp (lt-leb (length s) p h, ne-eqb (getD s p 0) 0x2B plus, ne-eqb (getD s p 0) 0x28 opens, ne-eqb (getD s p 0) 0x29 closes, e)
+    mark-else =
+        simp (lt-leb (length s) p h, ne-eqb (getD s p 0) 0x2B plus, ne-eqb (getD s p 0) 0x28 opens, ne-eqb (getD s p 0) 0x29 closes)
+
+    pub mark-slash : (eqb (getD s p 0) 0x2F && m .slash) ≡ true → got m Or p (p + 1) ≡ markOf s m at p
+    mark-slash e = sym (mark-else ∙ cond-true _ _ _ e)
 
     pub mark-run : (eqb (getD s p 0) 0x2F && m .slash) ≡ false → runOf s m p ≡ markOf s m at p
-    unfolding markOf
-    mark-run e = simp (lt-leb (length s) p h, ne-eqb (getD s p 0) 0x2B plus, ne-eqb (getD s p 0) 0x28 opens, ne-eqb (getD s p 0) 0x29 closes, e)
+    mark-run e = sym (mark-else ∙ cond-false _ _ _ e)
 
 -- the step from any place, by whether it is one between two characters: x says if it is inside a character
 module _ (s : List ℕ) (m : Mode) (at : ℕ) (x : Bool) (inside : x ≡ insideOf s at) where

@@ -1,6 +1,6 @@
 -- The modes. Document 01: "Mode is five free flags; STRICT and LAX as in `src/lexer.rs`". Their bits are those of the line protocol's MODE.
 use Prim.Native.Nat.{ℕ, _/_, _%_}
-use mathlib.Core.Bool.{Bool, true, false}
+use mathlib.Core.Bool.{true, false}
 use lib.Dec.{eqb}
 use Rattle.mode.specs.declared.Mode.{Mode}
 

@@ -1,5 +1,5 @@
 -- A walk over characters ends inside the text, so where it does not end before the text does, the text is well-formed.
-use mathlib.Core.Path.{sym, _∙_}
+use mathlib.Core.Path.{sym}
 use native.Mathlib.Omega.{arith}
 use denote.Ref.{now}
 use borrow.Author.Needs.{needs}

@@ -3,10 +3,8 @@ use native.Mathlib.Omega.{arith}
 use denote.Ref.{now}
 use borrow.Author.Needs.{needs}
 use borrow.Author.Tests.{eq-eqb, ne-eqb}
-use Rattle.text.specs.Runs.{runByte}
-use Rattle.text.specs.Walk.{one}
-use Rattle.text.specs.WalkLaws.{reach-ge, reach-le}
-use Rattle.lexer.specs.Lex.{runEnd, runOf}
+use Rattle.lexer.specs.Lex.{runOf}
+use Rattle.lexer.specs.RunLaws.{run-ge, run-le}
 use Rattle.lexer.proofs.run.Statement.{statement}
 use Rattle.lexer.proofs.run.Tie as tie
 
@@ -16,12 +14,11 @@ returns c = simp (← c .before .run-end .ensures, eq-eqb _ _ (c .if1 .taken))
 
 -- a run starts where it was looked for and ends inside the text
 known-requires : tie.Need-known-requires
-unfolding runEnd
 known-requires c κs =
     let st = c .before .before .before .before in
     let e = c .before .run-end .ensures in
-    let g = reach-ge (one runByte) (now (st .args .s)) (st .args .p) in
-    let h = reach-le (one runByte) (now (st .args .s)) (st .args .p) (st .pre .1) in
+    let g = run-ge (now (st .args .s)) (st .args .p) in
+    let h = run-le (now (st .args .s)) (st .args .p) (st .pre .1) in
     (st .pre .0, omega arith, omega arith)
 
 returns-2 : tie.Need-returns-2
