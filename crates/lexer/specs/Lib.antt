@@ -4,6 +4,7 @@ pub mod Shape
 pub mod LexLaws
 pub mod RunLaws
 pub mod Ahead
+pub mod Inner
 pub mod Agree
 pub mod Between
 pub mod TokensLaws
