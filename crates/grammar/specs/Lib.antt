@@ -1,0 +1,6 @@
+pub mod Leaves
+pub mod Tree
+pub mod TreeLaws
+pub mod Grammar
+pub mod Shape
+pub mod Worked
