@@ -96,24 +96,29 @@ fn compare(t: &[u64], run: &[u8], k: usize) -> Order
     }
 }
 
-// The place of a run among the names from one place up to another: the walk ends at the first name that is not before the run.
+// The place of a run among the names from one place up to another: a name of another length is passed by unread, and the walk ends at the
+// first of the run's length that is not before it.
 fn find(t: &[u64], run: &[u8], from: usize, to: usize) -> Found
     requires { ⌜ (now t ≡ words) × (from ≤ to) × (to ≤ length rows) × Ascending (texts (part from to)) ⌝ }
     ensures { λ r. ⌜ r ≡ lookup (texts (part from to)) (now (run .entry)) ⌝ }
 {
     let mut k = from;
     while k < to {
-        let o = compare(t, run, k);
-        match o {
-            Order::Equal => {
-                return Found::At(k - from);
+        if len(t, k) == run.len() {
+            let o = compare(t, run, k);
+            match o {
+                Order::Equal => {
+                    return Found::At(k - from);
+                }
+                Order::Less => {
+                    return Found::Nothing;
+                }
+                Order::Greater => {
+                    k += 1;
+                }
             }
-            Order::Less => {
-                return Found::Nothing;
-            }
-            Order::Greater => {
-                k += 1;
-            }
+        } else {
+            k += 1;
         }
     }
     Found::Nothing

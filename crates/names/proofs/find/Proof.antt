@@ -1,5 +1,6 @@
--- No name up to k is the run: each stands before it. A name that stands after the run ends the search, since all behind it stand after it too.
-use mathlib.Core.Path.{_≡_, sym, _∙_, subst}
+-- No name up to k is the run: each has another length or stands before it. A name that stands after the run ends the search, since all behind it
+-- stand after it too.
+use mathlib.Core.Path.{_≡_, sym, ap, _∙_, subst}
 use mathlib.Core.List.{List}
 use Prim.Native.Nat.{ℕ, _+_, _-_, _≤_, _<_}
 use native.Mathlib.Decide.{decLt}
@@ -33,6 +34,16 @@ module _ (from to : ℕ) (b : to ≤ length rows) (s : Ascending (texts (part fr
     hit : order run (nameAt k) ≡ Equal → At (k - from) ≡ lookup (texts (part from to)) run
     hit e = sym (found (texts (part from to)) run (k - from) s inside (part-at from to k h l ∙ sym (equal-same run (nameAt k) e)))
 
+    -- a name of another length is not the run
+    past : (length (nameAt k) ≡ length run → ⊥) → None (k - from) → None (k + 1 - from)
+    past f n j q e = go (decLt j (k - from))
+      where
+        go : Dec (j < k - from) → ⊥
+        go (yes w) = n j w e
+        go (no w) =
+            let i : j ≡ k - from = omega arith in
+            f (ap length (sym (part-at from to k h l) ∙ ap (bytesAt (texts (part from to))) (sym i) ∙ e))
+
     on : order run (nameAt k) ≡ Greater → None (k + 1 - from)
     on e j q =
         behind (texts (part from to)) run (k - from) s inside
@@ -58,30 +69,40 @@ loop-holds : tie.Need-loop-holds Inv-loop μ-loop
 loop-holds c = (omega arith, omega arith, λ j h e. absurd (omega arith))
 
 compare-requires : tie.Need-compare-requires Inv-loop μ-loop
-compare-requires c κs = (c .before .before .before .before .pre .0, omega arith)
+compare-requires c κs = (c .before .before .before .before .before .before .pre .0, omega arith)
 
 returns : tie.Need-returns Inv-loop μ-loop
 returns c =
-    let lp = c .before .before .before .before in
+    let lp = c .before .before .before .before .before .before in
     let st = lp .before .before .before in
     hit (st .args .from) (st .args .to) (st .pre .2) (st .pre .3) (now (st .args .run)) (lp .loop .k) (omega arith) (omega arith)
     (sym (c .before .before .compare .ensures) ∙ c .enum-told .given .1)
 
 returns-2 : tie.Need-returns-2 Inv-loop μ-loop
 returns-2 c =
-    let lp = c .before .before .before .before in
+    let lp = c .before .before .before .before .before .before in
     let st = lp .before .before .before in
     over (st .args .from) (st .args .to) (st .pre .2) (st .pre .3) (now (st .args .run)) (lp .loop .k) (omega arith) (omega arith)
     (sym (c .before .before .compare .ensures) ∙ c .enum-told2 .given .1) (lp .loop .inv .2)
 
 loop-again : tie.Need-loop-again Inv-loop μ-loop
 loop-again c =
-    let lp = c .before .before .before .before in
+    let lp = c .before .before .before .before .before .before in
     let st = lp .before .before .before in (
       omega arith,
       omega arith,
       on (st .args .from) (st .args .to) (st .pre .2) (st .pre .3) (now (st .args .run)) (lp .loop .k) (omega arith) (omega arith)
           (sym (c .before .before .compare .ensures) ∙ c .enum-told3 .given .1),
+    )
+
+loop-again-2 : tie.Need-loop-again-2 Inv-loop μ-loop
+loop-again-2 c =
+    let lp = c .before .before .before in
+    let st = lp .before .before .before in (
+      omega arith,
+      omega arith,
+      past (st .args .from) (st .args .to) (st .pre .2) (st .pre .3) (now (st .args .run)) (lp .loop .k) (omega arith) (omega arith)
+          (λ e. c .if1 .left (c .before .len .ensures ∙ e)) (lp .loop .inv .2),
     )
 
 returns-3 : tie.Need-returns-3 Inv-loop μ-loop
@@ -97,6 +118,7 @@ find-spec =
     Inv-loop
     μ-loop
     loop-holds
+    (λ c κs. (c .before .before .before .before .pre .0, omega arith))
     compare-requires
     (λ c. search needs)
     (λ c. omega arith)
@@ -107,4 +129,7 @@ find-spec =
     (λ c. omega arith)
     (λ c. omega arith)
     loop-again
+    (λ c. omega arith)
+    (λ c. omega arith)
+    loop-again-2
     returns-3)
