@@ -1,0 +1,1 @@
+// Laws only: Annex D's grammar as a relation, held against the reader by levels.
