@@ -12,6 +12,7 @@ mod forms;
 mod generate;
 mod given;
 mod lists;
+mod measured;
 mod minimizer;
 mod names_and_bytes;
 mod pieces;
@@ -29,6 +30,7 @@ const USAGE: &str = "usage:
   oracle answer [--from]                       answers the questions on standard input
   oracle generate KIND --seed N --count K      writes K questions of a kind
   oracle exhaustive [N]                        writes parse questions for all sequences of up to N tokens
+  oracle measured --seed N --count K           writes K texts that read for the benchmark, and K that do not
   oracle compare ANSWERS ANSWERS QUESTIONS     shows where two files of answers differ
   oracle worked FILE                           runs lines QUESTION => ANSWER
   oracle minimizer [--slow]                    runs the given minimizer beyond 30 found licensees
@@ -57,6 +59,7 @@ fn run(arguments: &[&str]) -> io::Result<bool> {
         ["generate", kind, "--seed", seed, "--count", count] => generate(kind, numeric(seed)?, numeric(count)?),
         ["exhaustive"] => exhaustive(exhaustive::TOKENS),
         ["exhaustive", tokens] => exhaustive(numeric(tokens)? as usize),
+        ["measured", "--seed", seed, "--count", count] => measured(numeric(seed)?, numeric(count)?),
         ["compare", first, second, questions] => Ok(compare::compare(first, second, questions)? == 0),
         ["worked", path] => Ok(worked::run(path)? == 0),
         ["minimizer"] => {
@@ -96,6 +99,13 @@ fn generate(kind: &str, seed: u64, count: u64) -> io::Result<bool> {
 fn exhaustive(tokens: usize) -> io::Result<bool> {
     let mut output = BufWriter::new(io::stdout().lock());
     exhaustive::questions(tokens, |question| writeln!(output, "{question}"))?;
+    output.flush()?;
+    Ok(true)
+}
+
+fn measured(seed: u64, count: u64) -> io::Result<bool> {
+    let mut output = BufWriter::new(io::stdout().lock());
+    measured::lines(seed, count, |line| writeln!(output, "{line}"))?;
     output.flush()?;
     Ok(true)
 }

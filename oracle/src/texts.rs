@@ -75,7 +75,8 @@ fn white(random: &mut Random, text: &mut String) {
     }
 }
 
-fn leaf(random: &mut Random, flags: u8, text: &mut String) {
+/// A leaf for the mode, but for a stray one now and then.
+pub fn leaf(random: &mut Random, flags: u8, text: &mut String) {
     let flags = if random.one_in(STRAY) { LARGEST_MODE } else { flags };
     let (name, listed) = licence(random, flags);
     text.push_str(name);

@@ -2,6 +2,7 @@
 mod fields;
 mod floors;
 mod lines;
+mod nodes;
 mod questions;
 mod refusals;
 mod tokens;

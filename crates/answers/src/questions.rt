@@ -7,6 +7,7 @@ use crate::fields::Decimal;
 use crate::fields::Decoded;
 use crate::fields::MOST;
 use crate::floors;
+use crate::nodes;
 use crate::tokens;
 use crate::write;
 use crate::write::Out;
@@ -31,7 +32,12 @@ fn on_text(t: &[u64], word: &[u8], s: &[u8], out: &mut Out, at: usize) -> usize
 }
 
 // WORD NUMBER TEXT
-fn on_number_text(word: &[u8], x: u64, s: &[u8], out: &mut Out, at: usize) -> usize {
+fn on_number_text(t: &[u64], word: &[u8], x: u64, s: &[u8], out: &mut Out, at: usize) -> usize
+    requires { ⌜ now t ≡ words ⌝ }
+{
+    if text::equal(word, b"parse") {
+        return nodes::parse(t, x, s, out, at);
+    }
     if text::equal(word, b"char") {
         return floors::char(x, s, out, at);
     }
@@ -72,7 +78,9 @@ fn with_text(t: &[u64], line: &[u8], bytes: &mut Decoded, out: &mut Out, at: usi
     on_text(t, fields::field(line, 0), text::cut(bytes, 0, n), out, at)
 }
 
-fn with_number_text(line: &[u8], bytes: &mut Decoded, out: &mut Out, at: usize) -> usize {
+fn with_number_text(t: &[u64], line: &[u8], bytes: &mut Decoded, out: &mut Out, at: usize) -> usize
+    requires { ⌜ now t ≡ words ⌝ }
+{
     let Decimal::Of(x) = fields::number(fields::field(line, 1)) else {
         return write::unknown(out, at);
     };
@@ -80,7 +88,14 @@ fn with_number_text(line: &[u8], bytes: &mut Decoded, out: &mut Out, at: usize) 
     if n > MOST {
         return write::unknown(out, at);
     }
-    on_number_text(fields::field(line, 0), x, text::cut(bytes, 0, n), out, at)
+    on_number_text(
+        t,
+        fields::field(line, 0),
+        x,
+        text::cut(bytes, 0, n),
+        out,
+        at,
+    )
 }
 
 fn with_numbers_text(t: &[u64], line: &[u8], bytes: &mut Decoded, out: &mut Out, at: usize) -> usize
@@ -113,7 +128,7 @@ pub(crate) fn answer(t: &[u64], line: &[u8], bytes: &mut Decoded, out: &mut Out,
 {
     match fields::spaces(line) {
         1 => with_text(t, line, bytes, out, at),
-        2 => with_number_text(line, bytes, out, at),
+        2 => with_number_text(t, line, bytes, out, at),
         3 => with_numbers_text(t, line, bytes, out, at),
         _ => write::unknown(out, at),
     }

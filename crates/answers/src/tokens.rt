@@ -12,7 +12,7 @@ use lexer::Token;
 use refusal::Span;
 
 // The highest mode: all flags.
-const ALL_FLAGS: u64 = 31;
+pub(crate) const ALL_FLAGS: u64 = 31;
 
 // A reference's names: the document part's, - where there is none, and its own.
 fn reference(doc: Doc, name: Span, out: &mut Out, at: usize) -> usize {

@@ -1,0 +1,23 @@
+-- What the benchmark's one function answers: a number that every part of a parse goes into, by the node that is picked.
+use Prim.Native.Nat.{ℕ, _+_, _*_, _%_}
+use lib.ListN.{getD}
+use Rattle.refusal.specs.Refused.{numberOf}
+use Rattle.grammar.specs.declared.Kind.{Kind}
+use Rattle.grammar.specs.declared.Kind.the-variants as K
+use Rattle.grammar.specs.declared.Outcome.{Outcome}
+use Rattle.grammar.specs.declared.Outcome.the-variants as O
+use Rattle.grammar.specs.declared.Parsed.{Parsed}
+use Rattle.grammar.specs.Grammar.{blank}
+
+abbrev pub weightOf : Kind → ℕ
+weightOf K.Blank = 0
+weightOf (K.Leaf l) = l .span .end
+weightOf K.And = 1
+weightOf K.Or = 2
+
+abbrev pub numberIn : Outcome → ℕ
+numberIn O.Read = 0
+numberIn (O.Refused r) = numberOf r
+
+abbrev pub digestOf : Parsed → ℕ → ℕ
+digestOf p i = numberIn (p .outcome) * 0x1000000 + p .count % 256 * 0x10000 + weightOf (getD (p .nodes) (i % 127) blank .kind)

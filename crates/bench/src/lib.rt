@@ -1,0 +1,44 @@
+// What the benchmark links: a parse whose answer is used, any of its nodes, so that none of it can be left out.
+ghost use mathlib.Core.Path.{_≡_};
+ghost use Rattle.mode.specs.Modes.{modeOf};
+ghost use Rattle.grammar.specs.Grammar.{parseOf, answerOf};
+ghost use Rattle.bench.specs.Digest.{weightOf, numberIn, digestOf};
+use parser::Kind;
+use parser::Mode;
+use parser::Outcome;
+
+fn weight(k: Kind) -> u16
+    ensures { λ r. ⌜ r ≡ weightOf k ⌝ }
+{
+    match k {
+        Kind::Blank => 0,
+        Kind::Leaf(l) => l.span.end,
+        Kind::And => 1,
+        Kind::Or => 2,
+    }
+}
+
+fn number(o: Outcome) -> u8
+    ensures { λ r. ⌜ r ≡ numberIn o ⌝ }
+{
+    match o {
+        Outcome::Read => 0,
+        Outcome::Refused(r) => refusal::number(r),
+    }
+}
+
+// The refusal's number, the count of nodes and the weight of one of them.
+#[no_mangle]
+pub extern "C" fn parse_digest(s: &[u8], mode: u8, pick: usize) -> u64
+    ensures { λ r. ⌜ r ≡ digestOf (answerOf (parseOf (now (s .entry)) (modeOf mode))) pick ⌝ }
+{
+    let p = parser::parse(s, Mode::of(mode));
+    let outcome = p.outcome;
+    let nodes = p.nodes;
+    let node = nodes[pick % 127];
+    let kind = node.kind;
+    let count = (p.count % 256) as u64;
+    let low = weight(kind) as u64;
+    let high = number(outcome) as u64;
+    high * 0x100_0000 + count * 0x1_0000 + low
+}
