@@ -46,12 +46,16 @@ fn same_answers() {
     let operators = ["MIT Or ISC", "MIT or ISC", "(MIT)AND(ISC)"];
     let references = ["LicenseRef-", "MIT WITH AdditionRef-a"];
     let parentheses = ["(MIT) MIT", "((MIT))"];
-    for text in operators.into_iter().chain(references).chain(parentheses) {
+    let gnu = ["GPL-2.0", "GPL-2.0-only+"];
+    for text in operators.into_iter().chain(references).chain(parentheses).chain(gnu) {
         row(&format!("`{text}`"), &nodes(text, ParseMode::STRICT), &our_nodes(STRICT, text));
     }
     let unknown = ParseMode { allow_unknown: true, ..ParseMode::STRICT };
-    for text in ["foo+", "MIT WITH a WITH b"] {
+    for text in ["foo", "foo+", "MIT WITH a WITH b"] {
         row(&format!("`{text}`, unknown terms allowed"), &nodes(text, unknown), &our_nodes(UNKNOWN, text));
+    }
+    for text in ["GPL-2.0", "GPL-2.0-only+", "GPL-2.0-or-later+"] {
+        row(&format!("`{text}`, LAX"), &nodes(text, ParseMode::LAX), &our_nodes(LAX, text));
     }
     for text in ["GPL-3.0-or-later+", "GPL-3.0-only+", "MIT MIT", " "] {
         row(&format!("`{text}`, canonical"), &canonical(text), &our_canonical(text));

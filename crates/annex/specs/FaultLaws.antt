@@ -24,7 +24,7 @@ use Rattle.grammar.specs.Grammar.{refused, readIf, parseOf}
 use Rattle.annex.specs.Annex.{Sign}
 use Rattle.annex.specs.Signs.{View, signOf}
 use Rattle.annex.specs.Faults.{Begins, Dead, Not, setAfter, Split, here, next, Reason, lexical, unexpected, unended, Fault}
-use Rattle.annex.specs.Blame.{Blamed, blamed}
+use Rattle.annex.specs.Judge.{Blamed, blamed}
 
 -- the reason of a refusal; 9 is that there is no token
 pub faults : {R S : Type 0} (v : View R S) (s : List ℕ) (m : Mode) (r : Refusal) → checkOf s ≡ Fine → parseOf s m ≡ refused r

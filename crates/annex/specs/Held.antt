@@ -28,7 +28,7 @@ use Rattle.annex.specs.Signs.{View, signsOf, itemOf, Fits, Over, Says}
 use Rattle.annex.specs.Unique.{clash, one-tree}
 use Rattle.annex.specs.Complete.{Answers, answers}
 use Rattle.annex.specs.Splits.{split-signs}
-use Rattle.annex.specs.Blame.{Read, Judged, all-judged}
+use Rattle.annex.specs.Judge.{Read, Judged, all-judged}
 
 weaken : (r n k : ℕ) → Over r (0 + n) (0 + k) → Over r n k
 weaken r n k (inl h) = inl (h .0, omega arith)

@@ -9,5 +9,5 @@ pub mod Complete
 pub mod Held
 pub mod Scan
 pub mod Splits
-pub mod Blame
+pub mod Judge
 pub mod FaultLaws

@@ -6,4 +6,5 @@ pub mod Meaning
 pub mod Machine
 pub mod Bounds
 pub mod Arrays
+pub mod Nodes
 pub mod Unique
