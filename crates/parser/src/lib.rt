@@ -1,18 +1,18 @@
 // From tokens to nodes: the stack reader, a token at a time.
 ghost use mathlib.Core.Path.{_≡_};
-ghost use Prim.Native.Nat.{_+_, _-_, _≤_, _<_};
+ghost use Prim.Native.Nat.{_-_, _<_};
 ghost use lib.ListN.{length};
 ghost use Rattle.names.specs.Layout.{words};
+ghost use Rattle.refusal.specs.Refused.{span};
 ghost use Rattle.lexer.specs.Lex.{checkOf};
 ghost use Rattle.lexer.specs.Tokens.{tokensOf};
 ghost use Rattle.lexer.specs.declared.Checked.the-variants.{Fine};
-ghost use Rattle.grammar.specs.declared.Start.the-variants.{Begins};
-ghost use Rattle.grammar.specs.declared.Move.the-variants.{Goes};
 ghost use Rattle.grammar.specs.declared.Before.the-variants.{Added};
+ghost use Rattle.grammar.specs.declared.Move.the-variants.{Goes};
+ghost use Rattle.grammar.specs.declared.Start.the-variants.{Begins};
 ghost use Rattle.grammar.specs.Leaves.{rangeOf, partOf, refLeaf, withListed, withRef, expectedAfter, takesWith, isWith, nameStart, startOf, noAddition, laterMove, withAfter, gnuMove, plusMove, plusAfter, tailMove, addMove, moveOf};
-ghost use Rattle.refusal.specs.Refused.{span};
+ghost use Rattle.grammar.specs.Grammar.{refused, unexpected, linkOf, read, parseOf, answerOf};
 ghost use Rattle.parser.specs.declared.Action.the-variants.{No};
-ghost use Rattle.grammar.specs.Grammar.{Result, refused, unexpected, linkOf, read, parseOf, answerOf};
 ghost use Rattle.parser.specs.Turn.{Small, SmallPart, SmallToken, SmallFound, SmallStep, isExpecting, rankBy, rankAfter, rankOf, popsOf, kindOf, leafAction, openAction, startAction, putAction, pushAction, closeAction, linkAction, moveAction, tokenAction, finishAction, endAction, turnOf};
 pub use grammar::Addition;
 use grammar::Before;
@@ -58,6 +58,7 @@ pub enum Action {
     No(Refusal),
 }
 
+// Places and indexes are stored in 16 bits: a text has at most 1,024 bytes.
 fn narrow(n: usize) -> u16
     requires { ⌜ n < 65536 ⌝ }
     ensures { λ r. ⌜ r ≡ n ⌝ }
@@ -101,6 +102,7 @@ fn expected(b: Before) -> Expected
     }
 }
 
+// May WITH follow?
 fn takes_with(b: Before) -> bool
     ensures { λ r. ⌜ r ≡ takesWith b ⌝ }
 {
@@ -150,6 +152,7 @@ fn referred(d: Doc, n: Span, sp: Span, b: Before) -> Start
     Start::Begins(leaf, b)
 }
 
+// A token where a licence may stand.
 fn start_of(t: &[u64], m: Mode, token: Token, sp: Span) -> Start
     requires { ⌜ (now t ≡ words) × SmallToken token × Small sp ⌝ }
     ensures { λ r. ⌜ r ≡ startOf m token sp ⌝ }
@@ -224,6 +227,7 @@ fn plus(t: &[u64], m: Mode, leaf: Leaf, k: usize, sp: Span) -> Move
     Move::Goes(now, Before::Suffixed)
 }
 
+// A `+`, which only a listed name takes.
 fn plus_after(t: &[u64], m: Mode, b: Before, leaf: Leaf, sp: Span) -> Move
     requires { ⌜ now t ≡ words ⌝ }
     ensures { λ r. ⌜ r ≡ plusAfter m b leaf sp ⌝ }
@@ -240,6 +244,7 @@ fn plus_after(t: &[u64], m: Mode, b: Before, leaf: Leaf, sp: Span) -> Move
     }
 }
 
+// A WITH behind what takes one.
 fn with_after(b: Before, leaf: Leaf) -> Move
     ensures { λ r. ⌜ r ≡ withAfter b leaf ⌝ }
 {
@@ -305,6 +310,7 @@ fn add_listed(leaf: Leaf, k: usize) -> Move
     Move::Goes(now, Before::Added)
 }
 
+// What is no addition, behind WITH.
 fn no_addition(sp: Span) -> Move
     ensures { λ r. ⌜ r ≡ noAddition sp ⌝ }
 {
@@ -331,6 +337,7 @@ fn add(leaf: Leaf, token: Token, sp: Span) -> Move
     }
 }
 
+// Is an addition expected?
 fn is_with(b: Before) -> bool
     ensures { λ r. ⌜ r ≡ isWith b ⌝ }
 {
@@ -358,6 +365,7 @@ fn behind(t: &[u64], m: Mode, b: Before, leaf: Leaf, token: Token, sp: Span) -> 
     }
 }
 
+// A token where an operand has ended.
 fn link_of(token: Token) -> Link
     ensures { λ r. ⌜ r ≡ linkOf token ⌝ }
 {
@@ -376,6 +384,7 @@ fn link_of(token: Token) -> Link
     }
 }
 
+// Is an operand expected?
 fn is_expecting(b: Before) -> bool
     ensures { λ r. ⌜ r ≡ isExpecting b ⌝ }
 {
@@ -448,6 +457,7 @@ fn on_start(x: Start, sp: Span, st: State) -> Action
     }
 }
 
+// An operator goes on the stack.
 fn push(code: u16, sp: Span, st: State) -> Action
     requires { ⌜ st .sp < 1000 ⌝ }
     ensures { λ r. ⌜ r ≡ pushAction code sp st ⌝ }
@@ -489,7 +499,7 @@ fn shut(sp: Span, st: State, top: u16) -> Action
     }
 }
 
-// A token where an operand has ended.
+// Such a token, with the frame on top.
 fn on_link(k: Link, sp: Span, st: State, top: u16) -> Action
     requires { ⌜ st .sp < 1000 ⌝ }
     ensures { λ r. ⌜ r ≡ linkAction k sp st top ⌝ }
@@ -534,6 +544,7 @@ fn on_move(x: Move, token: Token, sp: Span, st: State, top: u16) -> Action
     }
 }
 
+// A token, wherever it stands.
 fn on_token(t: &[u64], m: Mode, token: Token, sp: Span, leaf: Leaf, st: State, top: u16) -> Action
     requires { ⌜ (now t ≡ words) × SmallToken token × Small sp × (sp .start < 60000) × (st .sp < 1000) × (st .count < 1000) ⌝ }
     ensures { λ r. ⌜ r ≡ tokenAction m token sp leaf st top ⌝ }
@@ -560,6 +571,7 @@ fn finish(top: u16) -> Action
     }))
 }
 
+// The end of the text, where something has to follow.
 fn unended(b: Before, e: usize) -> Action
     ensures { λ r. ⌜ r ≡ No (unexpected (span e e) b) ⌝ }
 {
@@ -582,6 +594,7 @@ fn on_end(e: usize, b: Before, top: u16) -> Action
     }
 }
 
+// One turn: a step's answer, the last leaf, the state and the frame on top.
 fn turn(t: &[u64], m: Mode, step: Step, e: usize, leaf: Leaf, st: State, top: u16) -> Action
     requires { ⌜ (now t ≡ words) × SmallStep step × (st .sp < 1000) × (st .count < 1000) ⌝ }
     ensures { λ r. ⌜ r ≡ turnOf m step e leaf st top ⌝ }
@@ -608,6 +621,7 @@ fn rank_by(k: Link) -> u16
     }
 }
 
+// The same where an operand has ended; the end of the text is like a `)`.
 fn rank_after(step: Step) -> u16
     ensures { λ r. ⌜ r ≡ rankAfter step ⌝ }
 {
@@ -618,6 +632,7 @@ fn rank_after(step: Step) -> u16
     }
 }
 
+// Where no operand has ended, none is popped.
 fn rank(step: Step, b: Before) -> u16
     ensures { λ r. ⌜ r ≡ rankOf step b ⌝ }
 {
@@ -628,6 +643,7 @@ fn rank(step: Step, b: Before) -> u16
     }
 }
 
+// Is a frame an operator up to a rank? The bottom is 0.
 fn pops(code: u16, rank: u16) -> bool
     ensures { λ r. ⌜ r ≡ popsOf code rank ⌝ }
 {
@@ -641,6 +657,7 @@ fn operator(code: u16) -> Kind
     if code == 1 { Kind::And } else { Kind::Or }
 }
 
+// No nodes, and why.
 fn refuse(x: Refusal) -> Parsed
     ensures { λ r. ⌜ r ≡ answerOf (refused x) ⌝ }
 {
@@ -683,6 +700,7 @@ fn read_tokens(m: Mode, s: &[u8]) -> Parsed
         let rank = rank(step, b);
         let mut sp = st.sp;
         let mut count = st.count;
+        // the operators that this token ends become nodes
         while pops(stack[sp], rank) {
             nodes[count] = Node {
                 kind: operator(stack[sp]),
