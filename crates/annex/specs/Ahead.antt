@@ -1,23 +1,29 @@
--- Which token stands where a sign does, what a token is where an operand has ended, and how many leaves nodes have.
+-- Which token stands where a sign does, what a token is where an operand has ended, the two operators, and how many leaves nodes have.
 use mathlib.Core.Path.{_≡_, refl, ap, subst, _∙_}
 use mathlib.Core.List.{List, [], _∷_, _++_}
-use Prim.Native.Nat.{_+_}
+use mathlib.Core.Option.{Option, none}
+use Prim.Native.Nat.{ℕ, _+_}
 use native.Mathlib.Omega.{arith}
 use Rattle.refusal.specs.declared.Span.{Span}
 use Rattle.refusal.specs.declared.Refusal.{Refusal}
 use Rattle.lexer.specs.declared.Doc.{Doc}
 use Rattle.lexer.specs.declared.Token.{Token}
 use Rattle.lexer.specs.declared.Token.the-variants as T
-use Rattle.lexer.specs.Tokens.{Tokens, done, refused, token}
+use Rattle.lexer.specs.Tokens.{Tokens, done, token}
+use Rattle.lexer.specs.Tokens as Lexed
 use Rattle.grammar.specs.declared.Leaf.{Leaf}
+use Rattle.grammar.specs.declared.Kind.{Kind}
+use Rattle.grammar.specs.declared.Kind.the-variants as K
 use Rattle.grammar.specs.declared.Node.{Node}
+use Rattle.grammar.specs.declared.Before.{Before}
 use Rattle.grammar.specs.declared.Part.the-variants as P
+use Rattle.grammar.specs.declared.Link.{Link}
 use Rattle.grammar.specs.declared.Link.the-variants as N
 use Rattle.grammar.specs.Leaves.{rangeOf, partOf}
-use Rattle.grammar.specs.Tree.{Tree, postfix, seen, size, leaves}
+use Rattle.grammar.specs.Tree.{Tree, both, either, postfix, seen, size, leaves}
 use Rattle.grammar.specs.TreeLaws.{leaves-append, leaves-postfix, size-seen}
-use Rattle.grammar.specs.Grammar.{linkOf}
-use Rattle.annex.specs.Annex.{Sign, name, reference, unknown, exception, addition, plus, WITH, AND, OR, LP, RP, bad}
+use Rattle.grammar.specs.Grammar.{Result, got, refused, Reader, emit, linkOf, andBy, andNext, orBy, orNext, andTail, orTail}
+use Rattle.annex.specs.Annex.{Sign, name, reference, unknown, exception, addition, plus, WITH, AND, OR, LP, RP, bad, Level, Atom, AndLevel, OrLevel}
 use Rattle.annex.specs.Signs.{View, signsOf, itemOf}
 
 module _ {R S : Type 0} (v : View R S) where
@@ -43,11 +49,11 @@ module _ {R S : Type 0} (v : View R S) where
   Ahead (OR ∷ r) ts = Then T.Or ts r
   Ahead (LP ∷ r) ts = Then T.Open ts r
   Ahead (RP ∷ r) ts = Then T.Close ts r
-  Ahead (bad ∷ r) ts = (x : Refusal) × (ts ≡ refused x) × (r ≡ [])
+  Ahead (bad ∷ r) ts = (x : Refusal) × (ts ≡ Lexed.refused x) × (r ≡ [])
 
   ahead-of : (ts : Tokens) → Ahead (signsOf v ts) ts
   ahead-of done = refl
-  ahead-of (refused r) = (r, refl, refl)
+  ahead-of (Lexed.refused r) = (r, refl, refl)
   ahead-of (token T.And sp ts) = (sp, ts, refl, refl)
   ahead-of (token T.Or sp ts) = (sp, ts, refl, refl)
   ahead-of (token T.With sp ts) = (sp, ts, refl, refl)
@@ -84,6 +90,65 @@ linked (T.Exception k) = other refl
 linked (T.LicenseRef d n) = other refl
 linked (T.AdditionRef d n) = other refl
 linked (T.Unknown n) = other refl
+
+-- the two operators
+pub data Op : Type 0 where
+  by-and : Op
+  by-or : Op
+
+-- what they differ in: `lower` is the level to the left, `upper` the one to the right and of the whole; `tail` reads on behind a `lower`
+pub record Shape : Type 0 where
+  pub token : Token
+  pub kind : Kind
+  pub lower : Level
+  pub upper : Level
+  pub next : Tokens → Option Tokens
+  pub tail : Reader → ℕ → Result → Result
+
+abbrev pub of : Op → Shape
+of by-and = record { token = T.And; kind = K.And; lower = Atom; upper = AndLevel; next = andNext; tail = andTail }
+of by-or = record { token = T.Or; kind = K.Or; lower = AndLevel; upper = OrLevel; next = orNext; tail = orTail }
+
+abbrev pub node : {L : Type 0} → Op → Tree L → Tree L → Tree L
+node by-and t u = both t u
+node by-or t u = either t u
+
+-- behind a `lower`: a refusal stays; the operator and an `upper`; or nothing
+module _ (right : Reader) (d : ℕ) where
+  pub tail-refused : (w : Op) (r : Refusal) → of w .tail right d (refused r) ≡ refused r
+  tail-refused by-and r = refl
+  tail-refused by-or r = refl
+
+  pub tail-met : (w : Op) (q : List Node) (b : Before) (sp : Span) (us : Tokens)
+      → of w .tail right d (got q b (token (of w .token) sp us)) ≡ emit (of w .kind) (right d q us)
+  tail-met by-and q b sp us = refl
+  tail-met by-or q b sp us = refl
+
+  pub tail-unmet : (w : Op) (q : List Node) (b : Before) (ts : Tokens) → of w .next ts ≡ none → of w .tail right d (got q b ts) ≡ got q b ts
+  tail-unmet by-and q b ts h = rw h refl
+  tail-unmet by-or q b ts h = rw h refl
+
+-- tokens begin with an operator, or do not
+pub data Meets (w : Op) : Tokens → Type 0 where
+  met : {sp : Span} {us : Tokens} → Meets w (token (of w .token) sp us)
+  unmet : {ts : Tokens} → of w .next ts ≡ none → Meets w ts
+
+pub meets : (w : Op) (ts : Tokens) → Meets w ts
+meets by-and done = unmet refl
+meets by-or done = unmet refl
+meets by-and (Lexed.refused r) = unmet refl
+meets by-or (Lexed.refused r) = unmet refl
+meets w (token t sp us) = go w (linked t)
+  where
+    go : (w : Op) {t : Token} → Linked t → Meets w (token t sp us)
+    go by-and an-and = met
+    go by-and an-or = unmet refl
+    go by-and a-close = unmet refl
+    go by-and (other x) = unmet (ap (λ (k : Link). andBy k us) x)
+    go by-or an-and = unmet refl
+    go by-or an-or = met
+    go by-or a-close = unmet refl
+    go by-or (other x) = unmet (ap (λ (k : Link). orBy k us) x)
 
 -- the leaves of the nodes of a tree, behind others
 pub leaves-behind : {R S : Type 0} (v : View R S) (t : Tree Leaf) (q p : List Node) → p ≡ q ++ postfix t → leaves p ≡ leaves q + size (seen (itemOf v) t)

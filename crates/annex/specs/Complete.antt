@@ -12,21 +12,18 @@ use Rattle.refusal.specs.Refused.{numberOf}
 use Rattle.refusal.specs.declared.Span.{Span}
 use Rattle.refusal.specs.declared.Refusal.the-variants.{TooManyLeaves, TooDeep}
 use Rattle.mode.specs.declared.Mode.{Mode}
-use Rattle.lexer.specs.declared.Token.{Token}
 use Rattle.lexer.specs.declared.Token.the-variants as T
-use Rattle.lexer.specs.Tokens.{Tokens, done, token}
-use Rattle.lexer.specs.Tokens as Lexed
+use Rattle.lexer.specs.Tokens.{Tokens}
 use Rattle.grammar.specs.declared.Leaf.{Leaf}
 use Rattle.grammar.specs.declared.Kind.the-variants as K
 use Rattle.grammar.specs.declared.Node.{Node}
-use Rattle.grammar.specs.declared.Link.{Link}
 use Rattle.grammar.specs.Tree.{Tree, just, both, either, nodeOf, postfix, size, seen, leaves}
-use Rattle.grammar.specs.Grammar.{Result, got, refused, Reader, pick, emit, linkOf, andBy, andNext, orBy, orNext, close, andTail, orTail, count, atomAt, andLevel, orLevel}
+use Rattle.grammar.specs.Grammar.{Result, got, refused, Reader, pick, emit, close, count, atomAt, andLevel, orLevel}
 use Rattle.grammar.specs.Levels.{and-eq, or-eq}
 use Rattle.annex.specs.Annex.{Sign, AND, OR, LP, RP, Item, Level, Atom, AndLevel, OrLevel, Derives, leaf, group, alone, joined, one, choice, depth}
-use Rattle.annex.specs.Signs.{View, signOf, signsOf, itemOf, Over}
+use Rattle.annex.specs.Signs.{View, signsOf, itemOf, Over}
 use Rattle.annex.specs.Unique.{Head, NoAnd, NoOr, Stops}
-use Rattle.annex.specs.Ahead.{Then, ahead, Linked, an-and, an-or, a-close, other, linked, leaves-behind}
+use Rattle.annex.specs.Ahead.{Then, ahead, Op, by-and, by-or, of, node, tail-refused, tail-met, tail-unmet, Meets, met, unmet, meets, leaves-behind}
 use Rattle.annex.specs.LeafLaws.{Leafed, leafed}
 
 over-more : (r m k n l : ℕ) → m ≤ n → k ≤ l → Over r m k → Over r n l
@@ -40,39 +37,24 @@ Answers v c t k q d rest (got p b ts) = (u : Tree Leaf) × (p ≡ q ++ postfix u
 Answers v c t k q d rest (refused r) = Over (numberOf r) (leaves q + size t) (d + k)
 
 module _ {R S : Type 0} (v : View R S) (m : Mode) (e c : ℕ) where
-  abbrev and! : Reader
-  and! = andLevel m e (suc c)
-
   abbrev or! : Reader
   or! = orLevel m e (suc c)
 
   -- the reader of a level
   abbrev pub level : Level → Reader
   level Atom d q ts = atomAt m e or! d q ts
-  level AndLevel d q ts = and! d q ts
+  level AndLevel d q ts = andLevel m e (suc c) d q ts
   level OrLevel d q ts = or! d q ts
 
-  no-and : (ts : Tokens) → Head NoAnd (signsOf v ts) → andNext ts ≡ none
-  no-and done h = refl
-  no-and (Lexed.refused r) h = refl
-  no-and (token t sp ts) h = go (linked t) h
-    where
-      go : {t : Token} → Linked t → NoAnd (signOf v t sp) → andBy (linkOf t) ts ≡ none
-      go an-and h = absurd h
-      go an-or h = refl
-      go a-close h = refl
-      go (other x) h = ap (λ (k : Link). andBy k ts) x
+  -- no such operator
+  abbrev No : Op → Sign R S → Type 0
+  No by-and x = NoAnd x
+  No by-or x = NoOr x
 
-  no-or : (ts : Tokens) → Head NoOr (signsOf v ts) → orNext ts ≡ none
-  no-or done h = refl
-  no-or (Lexed.refused r) h = refl
-  no-or (token t sp ts) h = go (linked t) h
-    where
-      go : {t : Token} → Linked t → NoOr (signOf v t sp) → orBy (linkOf t) ts ≡ none
-      go an-and h = refl
-      go an-or h = absurd h
-      go a-close h = refl
-      go (other x) h = ap (λ (k : Link). orBy k ts) x
+  no-next : (w : Op) {ts : Tokens} → Meets w ts → Head (No w) (signsOf v ts) → of w .next ts ≡ none
+  no-next by-and met h = absurd h
+  no-next by-or met h = absurd h
+  no-next w (unmet x) h = x
 
   on-leaf : (i : Item R S) (d : ℕ) (q : List Node) (ts : Tokens) (rest : List (Sign R S)) → count ts ≤ c → Leafed v m e ts i rest
       → Answers v c (just i) 0 q d rest (atomAt m e or! d q ts)
@@ -97,50 +79,38 @@ module _ {R S : Type 0} (v : View R S) (m : Mode) (e c : ℕ) where
   on-group t k d q sp ts rest h true x = on-close t k d q sp rest (or! (d + 1) q ts) h
   on-group t k d q sp ts rest h false x = inr (refl, omega (arith, ltb-false d 32 x))
 
-  -- behind an atom no AND stands; behind an and-level no OR
-  on-alone : (t : Tree (Item R S)) (k d : ℕ) (q : List Node) (rest : List (Sign R S)) → Head NoAnd rest → (r : Result)
-      → Answers v c t k q d rest r → Answers v c t k q d rest (andTail and! d r)
-  on-alone t k d q rest s (refused r) h = h
-  on-alone t k d q rest s (got p b ts) h = rw (no-and ts (subst (Head NoAnd) (sym (h .4)) s)) h
+  -- no operator behind a level
+  on-lower : (w : Op) (t : Tree (Item R S)) (k d : ℕ) (q : List Node) (rest : List (Sign R S)) → Head (No w) rest → (r : Result)
+      → Answers v c t k q d rest r → Answers v c t k q d rest (of w .tail (level (of w .upper)) d r)
+  on-lower w t k d q rest s (refused r) h = rw (tail-refused (level (of w .upper)) d w r) h
+  on-lower w t k d q rest s (got p b ts) h =
+      rw (tail-unmet (level (of w .upper)) d w p b ts (no-next w (meets w ts) (subst (Head (No w)) (sym (h .4)) s))) h
 
-  on-one : (t : Tree (Item R S)) (k d : ℕ) (q : List Node) (rest : List (Sign R S)) → Head NoOr rest → (r : Result)
-      → Answers v c t k q d rest r → Answers v c t k q d rest (orTail or! d r)
-  on-one t k d q rest s (refused r) h = h
-  on-one t k d q rest s (got p b ts) h = rw (no-or ts (subst (Head NoOr) (sym (h .4)) s)) h
+  size-node : (w : Op) (t u : Tree (Item R S)) → size (node w t u) ≡ size t + size u
+  size-node by-and t u = refl
+  size-node by-or t u = refl
 
-  on-both : (o : Tree Leaf) (t u : Tree (Item R S)) (k j d : ℕ) (q p : List Node) (rest : List (Sign R S)) → p ≡ q ++ postfix o
-      → seen (itemOf v) o ≡ t → (r : Result) → Answers v c u j p d rest r → Answers v c (both t u) (max k j) q d rest (emit K.And r)
-  on-both o t u k j d q p rest x y (refused r) h =
-      over-more (numberOf r) (leaves p + size u) (d + j) (leaves q + (size t + size u)) (d + max k j)
-      (omega (arith, leaves-behind v o q p x, ap size y)) (omega arith) h
-  on-both o t u k j d q p rest x y (got z b ts) h =
-      (both o (h .0), simp (h .1, x, append-assoc), cc (y, h .2), h .3, h .4)
+  -- an operator's node behind two trees
+  on-node : (w : Op) (o : Tree Leaf) (t u : Tree (Item R S)) (k j d : ℕ) (q p : List Node) (rest : List (Sign R S)) → p ≡ q ++ postfix o
+      → seen (itemOf v) o ≡ t → (r : Result) → Answers v c u j p d rest r → Answers v c (node w t u) (max k j) q d rest (emit (of w .kind) r)
+  on-node w o t u k j d q p rest x y (refused r) h =
+      over-more (numberOf r) (leaves p + size u) (d + j) (leaves q + size (node w t u)) (d + max k j)
+      (omega (arith, leaves-behind v o q p x, ap size y, size-node w t u)) (omega arith) h
+  on-node by-and o t u k j d q p rest x y (got z b ts) h = (both o (h .0), simp (h .1, x, append-assoc), cc (y, h .2), h .3, h .4)
+  on-node by-or o t u k j d q p rest x y (got z b ts) h = (either o (h .0), simp (h .1, x, append-assoc), cc (y, h .2), h .3, h .4)
 
-  on-either : (o : Tree Leaf) (t u : Tree (Item R S)) (k j d : ℕ) (q p : List Node) (rest : List (Sign R S)) → p ≡ q ++ postfix o
-      → seen (itemOf v) o ≡ t → (r : Result) → Answers v c u j p d rest r → Answers v c (either t u) (max k j) q d rest (emit K.Or r)
-  on-either o t u k j d q p rest x y (refused r) h =
-      over-more (numberOf r) (leaves p + size u) (d + j) (leaves q + (size t + size u)) (d + max k j)
-      (omega (arith, leaves-behind v o q p x, ap size y)) (omega arith) h
-  on-either o t u k j d q p rest x y (got z b ts) h =
-      (either o (h .0), simp (h .1, x, append-assoc), cc (y, h .2), h .3, h .4)
-
-  on-joined : (t u : Tree (Item R S)) (k j d : ℕ) (q : List Node) (z rest : List (Sign R S))
-      → ((p : List Node) (ts : Tokens) → count ts ≤ c → signsOf v ts ≡ z ++ rest → Answers v c u j p d rest (and! d p ts))
-      → (r : Result) → Answers v c t k q d (AND ∷ (z ++ rest)) r → Answers v c (both t u) (max k j) q d rest (andTail and! d r)
-  on-joined t u k j d q z rest g (refused r) h =
-      over-more (numberOf r) (leaves q + size t) (d + k) (leaves q + (size t + size u)) (d + max k j) (omega arith) (omega arith) h
-  on-joined t u k j d q z rest g (got p b ts) h =
-      let n : Then v T.And ts (z ++ rest) = ahead v ts (h .4) in
-      rw (n .2) (on-both (h .0) t u k j d q p rest (h .1) (h .2) (and! d p (n .1)) (g p (n .1) (omega (arith, h .3, ap count (n .2))) (n .3)))
-
-  on-choice : (t u : Tree (Item R S)) (k j d : ℕ) (q : List Node) (z rest : List (Sign R S))
-      → ((p : List Node) (ts : Tokens) → count ts ≤ c → signsOf v ts ≡ z ++ rest → Answers v c u j p d rest (or! d p ts))
-      → (r : Result) → Answers v c t k q d (OR ∷ (z ++ rest)) r → Answers v c (either t u) (max k j) q d rest (orTail or! d r)
-  on-choice t u k j d q z rest g (refused r) h =
-      over-more (numberOf r) (leaves q + size t) (d + k) (leaves q + (size t + size u)) (d + max k j) (omega arith) (omega arith) h
-  on-choice t u k j d q z rest g (got p b ts) h =
-      let n : Then v T.Or ts (z ++ rest) = ahead v ts (h .4) in
-      rw (n .2) (on-either (h .0) t u k j d q p rest (h .1) (h .2) (or! d p (n .1)) (g p (n .1) (omega (arith, h .3, ap count (n .2))) (n .3)))
+  -- an operator, whose sign is x, behind a level
+  on-upper : (w : Op) (t u : Tree (Item R S)) (k j d : ℕ) (q : List Node) (x : Sign R S) (z rest : List (Sign R S))
+      → ((ts : Tokens) → signsOf v ts ≡ x ∷ (z ++ rest) → Then v (of w .token) ts (z ++ rest))
+      → ((p : List Node) (ts : Tokens) → count ts ≤ c → signsOf v ts ≡ z ++ rest → Answers v c u j p d rest (level (of w .upper) d p ts))
+      → (r : Result) → Answers v c t k q d (x ∷ (z ++ rest)) r → Answers v c (node w t u) (max k j) q d rest (of w .tail (level (of w .upper)) d r)
+  on-upper w t u k j d q x z rest a g (refused r) h =
+      rw (tail-refused (level (of w .upper)) d w r)
+      (over-more (numberOf r) (leaves q + size t) (d + k) (leaves q + size (node w t u)) (d + max k j) (omega (arith, size-node w t u)) (omega arith) h)
+  on-upper w t u k j d q x z rest a g (got p b ts) h =
+      let n : Then v (of w .token) ts (z ++ rest) = a ts (h .4) in
+      rw (n .2) (rw (tail-met (level (of w .upper)) d w p b (n .0) (n .1)) (on-node w (h .0) t u k j d q p rest (h .1) (h .2) (level (of w .upper) d p (n .1))
+      (g p (n .1) (omega (arith, h .3, ap count (n .2))) (n .3))))
 
   -- a level before the signs of a derivation, behind which it ends
   pub answers : {y : Level} {s : List (Sign R S)} {t : Tree (Item R S)} (x : Derives m y s t) (d : ℕ) (q : List Node) (ts : Tokens)
@@ -152,12 +122,12 @@ module _ {R S : Type 0} (v : View R S) (m : Mode) (e c : ℕ) where
       rw (n .2) (on-group t (depth x) d q (n .0) (n .1) rest
       (answers x (d + 1) q (n .1) (RP ∷ rest) (omega (arith, ap count (n .2))) (n .3) (tt, tt, tt)) (ltb d 32) refl)
   answers (alone {s} {t} x) d q ts rest b h w =
-      rw (and-eq m e c d q ts b) (on-alone t (depth x) d q rest (w .1) (level Atom d q ts) (answers x d q ts rest b h (w .0)))
+      rw (and-eq m e c d q ts b) (on-lower by-and t (depth x) d q rest (w .1) (level Atom d q ts) (answers x d q ts rest b h (w .0)))
   answers (joined {s} {z} {t} {u} x y) d q ts rest b h w =
-      rw (and-eq m e c d q ts b) (on-joined t u (depth x) (depth y) d q z rest (λ p n l i. answers y d p n rest l i w) (level Atom d q ts)
-      (answers x d q ts (AND ∷ (z ++ rest)) b (h ∙ append-assoc s (AND ∷ z) rest) tt))
+      rw (and-eq m e c d q ts b) (on-upper by-and t u (depth x) (depth y) d q AND z rest (λ n i. ahead v n i) (λ p n l i. answers y d p n rest l i w)
+      (level Atom d q ts) (answers x d q ts (AND ∷ (z ++ rest)) b (h ∙ append-assoc s (AND ∷ z) rest) tt))
   answers (one {s} {t} x) d q ts rest b h w =
-      rw (or-eq m e c d q ts b) (on-one t (depth x) d q rest (w .2) (and! d q ts) (answers x d q ts rest b h (w .0, w .1)))
+      rw (or-eq m e c d q ts b) (on-lower by-or t (depth x) d q rest (w .2) (level AndLevel d q ts) (answers x d q ts rest b h (w .0, w .1)))
   answers (choice {s} {z} {t} {u} x y) d q ts rest b h w =
-      rw (or-eq m e c d q ts b) (on-choice t u (depth x) (depth y) d q z rest (λ p n l i. answers y d p n rest l i w) (and! d q ts)
-      (answers x d q ts (OR ∷ (z ++ rest)) b (h ∙ append-assoc s (OR ∷ z) rest) (tt, tt)))
+      rw (or-eq m e c d q ts b) (on-upper by-or t u (depth x) (depth y) d q OR z rest (λ n i. ahead v n i) (λ p n l i. answers y d p n rest l i w)
+      (level AndLevel d q ts) (answers x d q ts (OR ∷ (z ++ rest)) b (h ∙ append-assoc s (OR ∷ z) rest) (tt, tt)))

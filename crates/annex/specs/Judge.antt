@@ -28,7 +28,6 @@ use Rattle.lexer.specs.Tokens.{Tokens, done, token}
 use Rattle.lexer.specs.Tokens as Lexed
 use Rattle.grammar.specs.declared.Leaf.{Leaf}
 use Rattle.grammar.specs.declared.Part.the-variants as P
-use Rattle.grammar.specs.declared.Kind.{Kind}
 use Rattle.grammar.specs.declared.Kind.the-variants as K
 use Rattle.grammar.specs.declared.Node.{Node}
 use Rattle.grammar.specs.declared.Before.{Before}
@@ -62,7 +61,7 @@ use Rattle.grammar.specs.Leaves.{
   broken,
   tailOf,
 }
-use Rattle.grammar.specs.Tree.{Tree, just, both, either, nodeOf, postfix, seen, leaves}
+use Rattle.grammar.specs.Tree.{Tree, just, nodeOf, postfix, seen, leaves}
 use Rattle.grammar.specs.TreeLaws.{leaves-append}
 use Rattle.grammar.specs.Grammar.{
   Result,
@@ -73,9 +72,7 @@ use Rattle.grammar.specs.Grammar.{
   emit,
   put,
   linkOf,
-  andBy,
   andNext,
-  orBy,
   orNext,
   closeBy,
   closeAt,
@@ -83,9 +80,6 @@ use Rattle.grammar.specs.Grammar.{
   endBy,
   endAt,
   end,
-  tailAt,
-  andTail,
-  orTail,
   count,
   atomBy,
   atomAt,
@@ -141,7 +135,7 @@ use Rattle.annex.specs.Annex.{
 }
 use Rattle.annex.specs.Signs.{View, signOf, itemOf}
 use Rattle.annex.specs.Unique.{clash}
-use Rattle.annex.specs.Ahead.{Linked, an-and, an-or, a-close, other, linked, leaves-behind}
+use Rattle.annex.specs.Ahead.{Linked, an-and, an-or, a-close, other, linked, Op, by-and, by-or, of, node, tail-refused, tail-met, tail-unmet, Meets, met, unmet, meets, leaves-behind}
 use Rattle.annex.specs.Faults.{
   Begins,
   Waits,
@@ -660,151 +654,128 @@ module _ {R S : Type 0} (v : View R S) (m : Mode) where
     atom-judged or d q (token (T.Unknown n) sp us) b g c =
         leaf-judged (T.Unknown n) sp us (refLeaf D.Absent n sp) Term c refl (bare term, (λ z a y. with term y)) refl refl
 
-    -- behind an operator, with a level before it
-    ctx-op : {u w : Level} {d : ℕ} {q p : List Node} {ts : Tokens} {b : Text} {k : Before} (t : Token) {sp : Span} {us : Tokens}
-        → Context w d q ts b → (h : Read u d q ts b p k (token t sp us)) → moveAt d k (signOf v t sp) ≡ mid d Joint
-        → setBehind (signOf v t sp) ≡ E.Term → joining (signOf v t sp) ≡ 1 → opening (signOf v t sp) ≡ 0 → closing (signOf v t sp) ≡ 0
-        → ((s : Text) (i : Tree (Item R S)) → Derives m w s i → (j : Tree (Item R S)) × Derives m w (h .text ++ (signOf v t sp ∷ s)) j)
-        → Context w d p us ((b ++ h .text) ++ (signOf v t sp ∷ []))
-    ctx-op {d = d} {q = q} {p = p} {b = b} t {sp} {us} c h f f0 f1 f2 f3 g =
-        let x : Sign R S = signOf v t sp in
-        record {
-          split = split-append (split-append (c .split) (h .split)) (next here);
-          can = (λ s i y. subst (Begins m) (behind b (h .text) x s) (c .can (h .text ++ (x ∷ s)) (g s i y .0) (g s i y .1)));
-          stands = stands-on x d Joint (h .stands) f f0;
-          many = omega (
-            arith,
-            c .many,
-            leaves-behind v (h .tree) q p (h .nodes),
-            weighs (h .derives) .0,
-            weight-append joining (b ++ h .text) (x ∷ []),
-            weight-append joining b (h .text),
-          );
-          open-now = omega (
-            arith,
-            c .open-now,
-            weighs (h .derives) .1,
-            weight-append opening (b ++ h .text) (x ∷ []),
-            weight-append opening b (h .text),
-            weight-append closing (b ++ h .text) (x ∷ []),
-            weight-append closing b (h .text),
-          );
-          shallow = c .shallow;
-        }
+    -- an operator's sign behind an ended operand
+    op-sign : (w : Op) (sp : Span) (k : Before) → Over k → (d : ℕ)
+        → let x : Sign R S = signOf v (of w .token) sp in
+        (moveAt d k x ≡ mid d Joint) × (setBehind x ≡ E.Term) × (joining x ≡ 1) × (opening x ≡ 0) × (closing x ≡ 0)
+    op-sign by-and sp k o d = (after-ended {R = R} {S = S} k o d AND, refl, refl, refl, refl)
+    op-sign by-or sp k o d = (after-ended {R = R} {S = S} k o d OR, refl, refl, refl, refl)
 
-    -- a level, an operator and a level
-    join : {u w : Level} {d : ℕ} {q p r : List Node} {ts rest : Tokens} {b : Text} {k j : Before} (t : Token) {sp : Span} {us : Tokens}
-        (h : Read u d q ts b p k (token t sp us)) (i : Read w d p us ((b ++ h .text) ++ (signOf v t sp ∷ [])) r j rest)
-        (n : Kind) (y : Tree Leaf) (x : Derives m w (h .text ++ (signOf v t sp ∷ i .text)) (seen (itemOf v) y))
-        → postfix y ≡ postfix (h .tree) ++ (postfix (i .tree) ++ (nodeOf n ∷ [])) → leaves (nodeOf n ∷ []) ≡ 0
-        → depth x ≡ max (depth (h .derives)) (depth (i .derives)) → Read w d q ts b (r ++ (nodeOf n ∷ [])) j rest
-    join {d = d} {r = r} {b = b} {j = j} t {sp} h i n y x z l o = record {
-      tree = y;
-      text = h .text ++ (signOf v t sp ∷ i .text);
-      derives = x;
-      nodes = simp (z, i .nodes, h .nodes, append-assoc);
-      few = omega (arith, i .few, leaves-append r (nodeOf n ∷ []));
-      flat = omega (arith, h .flat, i .flat);
-      split = split-append (h .split) (next (i .split));
-      stands = subst (λ (z : Text). Stands z d j) (sym (behind b (h .text) (signOf v t sp) (i .text))) (i .stands);
-      over = i .over;
-      shut = i .shut;
-    }
+    -- a level of an operator: one to its left; or one to its left, its sign and one to its right
+    lift : (w : Op) {s : Text} {t : Tree (Item R S)} (x : Derives m (of w .lower) s t) → (y : Derives m (of w .upper) s t) × (depth y ≡ depth x)
+    lift by-and x = (alone x, refl)
+    lift by-or x = (one x, refl)
+
+    pair : (w : Op) (sp : Span) {s z : Text} {t u : Tree (Item R S)} → Derives m (of w .lower) s t → Derives m (of w .upper) z u
+        → Derives m (of w .upper) (s ++ (signOf v (of w .token) sp ∷ z)) (node w t u)
+    pair by-and sp x y = joined x y
+    pair by-or sp x y = choice x y
+
+    -- the same of trees that have been read, with the depth and the nodes
+    pair-read : (w : Op) (sp : Span) {s z : Text} (t u : Tree Leaf)
+        (x : Derives m (of w .lower) s (seen (itemOf v) t)) (y : Derives m (of w .upper) z (seen (itemOf v) u))
+        → (i : Derives m (of w .upper) (s ++ (signOf v (of w .token) sp ∷ z)) (seen (itemOf v) (node w t u))) × (depth i ≡ max (depth x) (depth y))
+        × (postfix (node w t u) ≡ postfix t ++ (postfix u ++ (nodeOf (of w .kind) ∷ []))) × (leaves (nodeOf (of w .kind) ∷ []) ≡ 0)
+    pair-read by-and sp t u x y = (joined x y, refl, refl, refl)
+    pair-read by-or sp t u x y = (choice x y, refl, refl, refl)
+
+    -- a level has been read, and an operator stands behind it
+    module _ (w : Op) {d : ℕ} {q p : List Node} {ts us : Tokens} {b : Text} {k : Before} {sp : Span}
+        (h : Read (of w .lower) d q ts b p k (token (of w .token) sp us)) where
+      abbrev sign : Sign R S
+      sign = signOf v (of w .token) sp
+
+      ctx-op : Context (of w .upper) d q ts b → Context (of w .upper) d p us ((b ++ h .text) ++ (sign ∷ []))
+      ctx-op c =
+          let f = op-sign w sp k (h .over) d in
+          record {
+            split = split-append (split-append (c .split) (h .split)) (next here);
+            can = (λ s i y. subst (Begins m) (behind b (h .text) sign s)
+                (c .can (h .text ++ (sign ∷ s)) (node w (seen (itemOf v) (h .tree)) i) (pair w sp (h .derives) y)));
+            stands = stands-on sign d Joint (h .stands) (f .0) (f .1);
+            many = omega (
+              arith,
+              c .many,
+              f .2,
+              leaves-behind v (h .tree) q p (h .nodes),
+              weighs (h .derives) .0,
+              weight-append joining (b ++ h .text) (sign ∷ []),
+              weight-append joining b (h .text),
+            );
+            open-now = omega (
+              arith,
+              c .open-now,
+              f .3,
+              f .4,
+              weighs (h .derives) .1,
+              weight-append opening (b ++ h .text) (sign ∷ []),
+              weight-append opening b (h .text),
+              weight-append closing (b ++ h .text) (sign ∷ []),
+              weight-append closing b (h .text),
+            );
+            shallow = c .shallow;
+          }
+
+      -- the level behind it makes a level of both
+      join : (r : Result) → Judged (of w .upper) d p us ((b ++ h .text) ++ (sign ∷ [])) r → Judged (of w .upper) d q ts b (emit (of w .kind) r)
+      join (refused r) x = x
+      join (got r j rest) x =
+          let i = x .0 in
+          let y = pair-read w sp (h .tree) (i .tree) (h .derives) (i .derives) in (
+            record {
+              tree = node w (h .tree) (i .tree);
+              text = h .text ++ (sign ∷ i .text);
+              derives = y .0;
+              nodes = simp (y .2, i .nodes, h .nodes, append-assoc);
+              few = omega (arith, i .few, y .3, leaves-append r (nodeOf (of w .kind) ∷ []));
+              flat = omega (arith, h .flat, i .flat, y .1);
+              split = split-append (h .split) (next (i .split));
+              stands = subst (λ (z : Text). Stands z d j) (sym (behind b (h .text) sign (i .text))) (i .stands);
+              over = i .over;
+              shut = i .shut;
+            },
+            x .1,
+          )
 
     -- what a level has read is what the next level reads
-    same : {u w : Level} {d : ℕ} {q p : List Node} {ts rest : Tokens} {b : Text} {k : Before} (h : Read u d q ts b p k rest)
-        (x : Derives m w (h .text) (seen (itemOf v) (h .tree))) → depth x ≡ depth (h .derives) → Read w d q ts b p k rest
-    same h x l =
+    same : (w : Op) {d : ℕ} {q p : List Node} {ts rest : Tokens} {b : Text} {k : Before}
+        → Read (of w .lower) d q ts b p k rest → Read (of w .upper) d q ts b p k rest
+    same w h =
         record {
           tree = h .tree;
           text = h .text;
-          derives = x;
+          derives = lift w (h .derives) .0;
           nodes = h .nodes;
           few = h .few;
-          flat = omega (arith, h .flat);
+          flat = omega (arith, h .flat, lift w (h .derives) .1);
           split = h .split;
           stands = h .stands;
           over = h .over;
           shut = h .shut;
         }
 
-    -- after an atom
-    and-judged : (and : Reader) {d : ℕ} {q : List Node} {ts : Tokens} {b : Text} → Judges AndLevel (count ts) and → Context AndLevel d q ts b
-        → (r : Result) → Judged Atom d q ts b r → Judged AndLevel d q ts b (andTail and d r)
-    and-judged and g c (refused r) h = h
-    and-judged and {d} {q} {ts} {b} g c (got p k rest) h = go rest (h .0)
+    stops : (w : Op) (ts : Tokens) → Stops (of w .lower) ts → of w .next ts ≡ none → Stops (of w .upper) ts
+    stops by-and ts h i = i
+    stops by-or ts h i = (h, i)
+
+    -- after the level to the left of an operator
+    tail-judged : (w : Op) (right : Reader) {d : ℕ} {q : List Node} {ts : Tokens} {b : Text} → Judges (of w .upper) (count ts) right
+        → Context (of w .upper) d q ts b → (r : Result) → Judged (of w .lower) d q ts b r → Judged (of w .upper) d q ts b (of w .tail right d r)
+    tail-judged w right {d} g c (refused r) h = rw (tail-refused right d w r) h
+    tail-judged w right {d} {q} {ts} {b} g c (got p k rest) h = go (meets w rest) (h .0) (h .1)
       where
-        level : {rest : Tokens} → Read Atom d q ts b p k rest → Read AndLevel d q ts b p k rest
-        level h = same h (alone (h .derives)) refl
+        go : {rest : Tokens} → Meets w rest → Read (of w .lower) d q ts b p k rest → Stops (of w .lower) rest
+            → Judged (of w .upper) d q ts b (of w .tail right d (got p k rest))
+        go (met {sp} {us}) h i =
+            rw (tail-met right d w p k sp us) (join w h (right d p us)
+            (g d p us ((b ++ h .text) ++ (signOf v (of w .token) sp ∷ [])) (omega (arith, split-count (h .split))) (ctx-op w h c)))
+        go (unmet {ts = us} x) h i = rw (tail-unmet right d w p k us x) (same w h, stops w us i x)
 
-        emitted : {sp : Span} {us : Tokens} (h : Read Atom d q ts b p k (token T.And sp us)) (r : Result)
-            → Judged AndLevel d p us ((b ++ h .text) ++ (AND ∷ [])) r → Judged AndLevel d q ts b (emit K.And r)
-        emitted h (refused r) i = i
-        emitted h (got r j rest) i =
-            (join T.And h (i .0) K.And (both (h .tree) (i .0 .tree)) (joined (h .derives) (i .0 .derives)) refl refl refl, i .1)
-
-        by : {t : Token} (sp : Span) (us : Tokens) → Linked t → Read Atom d q ts b p k (token t sp us)
-            → Judged AndLevel d q ts b (tailAt K.And and d p k (token t sp us) (andBy (linkOf t) us))
-        by sp us an-and h =
-            emitted h (and d p us) (g d p us ((b ++ h .text) ++ (AND ∷ [])) (omega (arith, split-count (h .split)))
-            (ctx-op T.And c h (after-ended {R = R} {S = S} k (h .over) d AND) refl refl refl refl (λ s i y. (both (seen (itemOf v) (h .tree)) i, joined (h .derives) y))))
-        by sp us an-or h = (level h, refl)
-        by sp us a-close h = (level h, refl)
-        by {t} sp us (other x) h =
-            let e : andBy (linkOf t) us ≡ none = ap (λ (w : Link). andBy w us) x in
-            subst (λ (o : Option Tokens). Judged AndLevel d q ts b (tailAt K.And and d p k (token t sp us) o)) (sym e) (level h, e)
-
-        go : (rest : Tokens) → Read Atom d q ts b p k rest → Judged AndLevel d q ts b (tailAt K.And and d p k rest (andNext rest))
-        go done h = (level h, refl)
-        go (Lexed.refused r) h = (level h, refl)
-        go (token t sp us) h = by sp us (linked t) h
-
-    -- after an and-level
-    or-judged : (or : Reader) {d : ℕ} {q : List Node} {ts : Tokens} {b : Text} → Judges OrLevel (count ts) or → Context OrLevel d q ts b
-        → (r : Result) → Judged AndLevel d q ts b r → Judged OrLevel d q ts b (orTail or d r)
-    or-judged or g c (refused r) h = h
-    or-judged or {d} {q} {ts} {b} g c (got p k rest) h = go rest (h .0) (h .1)
-      where
-        level : {rest : Tokens} → Read AndLevel d q ts b p k rest → Read OrLevel d q ts b p k rest
-        level h = same h (one (h .derives)) refl
-
-        emitted : {sp : Span} {us : Tokens} (h : Read AndLevel d q ts b p k (token T.Or sp us)) (r : Result)
-            → Judged OrLevel d p us ((b ++ h .text) ++ (OR ∷ [])) r → Judged OrLevel d q ts b (emit K.Or r)
-        emitted h (refused r) i = i
-        emitted h (got r j rest) i =
-            (join T.Or h (i .0) K.Or (either (h .tree) (i .0 .tree)) (choice (h .derives) (i .0 .derives)) refl refl refl, i .1)
-
-        by : {t : Token} (sp : Span) (us : Tokens) → Linked t → Read AndLevel d q ts b p k (token t sp us) → andNext (token t sp us) ≡ none
-            → Judged OrLevel d q ts b (tailAt K.Or or d p k (token t sp us) (orBy (linkOf t) us))
-        by sp us an-and h n = (level h, (n, refl))
-        by sp us an-or h n =
-            emitted h (or d p us) (g d p us ((b ++ h .text) ++ (OR ∷ [])) (omega (arith, split-count (h .split)))
-            (ctx-op T.Or c h (after-ended {R = R} {S = S} k (h .over) d OR) refl refl refl refl (λ s i y. (either (seen (itemOf v) (h .tree)) i, choice (h .derives) y))))
-        by sp us a-close h n = (level h, (n, refl))
-        by {t} sp us (other x) h n =
-            let e : orBy (linkOf t) us ≡ none = ap (λ (w : Link). orBy w us) x in
-            subst (λ (o : Option Tokens). Judged OrLevel d q ts b (tailAt K.Or or d p k (token t sp us) o)) (sym e) (level h, (n, e))
-
-        go : (rest : Tokens) → Read AndLevel d q ts b p k rest → andNext rest ≡ none
-            → Judged OrLevel d q ts b (tailAt K.Or or d p k rest (orNext rest))
-        go done h n = (level h, (n, refl))
-        go (Lexed.refused r) h n = (level h, (n, refl))
-        go (token t sp us) h n = by sp us (linked t) h n
-
-    ctx-and : {d : ℕ} {q : List Node} {ts : Tokens} {b : Text} → Context OrLevel d q ts b → Context AndLevel d q ts b
-    ctx-and c = record {
+    -- where a level may stand, the level to the left of its operator may
+    ctx-lower : (w : Op) {d : ℕ} {q : List Node} {ts : Tokens} {b : Text} → Context (of w .upper) d q ts b → Context (of w .lower) d q ts b
+    ctx-lower w c = record {
       split = c .split;
-      can = (λ s t x. c .can s t (one x));
-      stands = c .stands;
-      many = c .many;
-      open-now = c .open-now;
-      shallow = c .shallow;
-    }
-
-    ctx-atom : {d : ℕ} {q : List Node} {ts : Tokens} {b : Text} → Context AndLevel d q ts b → Context Atom d q ts b
-    ctx-atom c = record {
-      split = c .split;
-      can = (λ s t x. c .can s t (alone x));
+      can = (λ s t x. c .can s t (lift w x .0));
       stands = c .stands;
       many = c .many;
       open-now = c .open-now;
@@ -817,12 +788,12 @@ module _ {R S : Type 0} (v : View R S) (m : Mode) where
     judges zero = ((λ d q ts b l c. absurd (omega arith)), (λ d q ts b l c. absurd (omega arith)))
     judges (suc f) =
         let a : Judges AndLevel (suc f) (andLevel m e (suc f)) =
-        (λ d q ts b l c. and-judged (andLevel m e f) (λ d q us b k c. judges f .0 d q us b (omega arith) c) c
+        (λ d q ts b l c. tail-judged by-and (andLevel m e f) (λ d q us b k c. judges f .0 d q us b (omega arith) c) c
         (atomAt m e (orLevel m e f) d q ts)
-        (atom-judged (orLevel m e f) d q ts b (λ d q us b k c. judges f .1 d q us b (omega arith) c) (ctx-atom c))) in (
+        (atom-judged (orLevel m e f) d q ts b (λ d q us b k c. judges f .1 d q us b (omega arith) c) (ctx-lower by-and c))) in (
           a,
-          (λ d q ts b l c. or-judged (orLevel m e f) (λ d q us b k c. judges f .1 d q us b (omega arith) c) c
-              (andLevel m e (suc f) d q ts) (a d q ts b l (ctx-and c))),
+          (λ d q ts b l c. tail-judged by-or (orLevel m e f) (λ d q us b k c. judges f .1 d q us b (omega arith) c) c
+              (andLevel m e (suc f) d q ts) (a d q ts b l (ctx-lower by-or c))),
         )
 
     -- before the first token
@@ -837,7 +808,7 @@ module _ {R S : Type 0} (v : View R S) (m : Mode) where
     }
 
     top-atom : Context Atom 0 [] all []
-    top-atom = ctx-atom (ctx-and top)
+    top-atom = ctx-lower by-and (ctx-lower by-or top)
 
     -- what the reader answers, from the first token on
     pub all-judged : Judged OrLevel 0 [] all [] (orLevel m e (suc (count all)) 0 [] all)
