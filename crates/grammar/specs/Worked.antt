@@ -1,6 +1,6 @@
 -- The worked texts of document 01 that speak of parsing, and texts at the edges of its rules: one table, computed, under one claim.
 -- Answers are in document 01's words: a listed name is its bytes, a refusal its number and last column.
-use Prim.Native.Nat.{ℕ, zero, suc}
+use Prim.Native.Nat.{ℕ, zero, suc, _+_}
 use Prim.Native.String.{String}
 use mathlib.Core.Path.{_≡_, refl}
 use mathlib.Core.Bool.{Bool, true, false}
@@ -112,6 +112,11 @@ times : ℕ → List ℕ → List ℕ
 times zero w = []
 times (suc n) w = w ++ times n w
 
+-- n times MIT, the first from a on, and a byte between two
+mits : ℕ → ℕ → List Shown
+mits zero a = []
+mits (suc n) a = lic "MIT" a (a + 3) ∷ mits n (a + 4)
+
 table : List ((Mode × List ℕ) × Answer)
 table =
     -- document 01's worked texts
@@ -188,6 +193,7 @@ table =
     -- the limits: 32 parentheses and 33, 64 leaves and 65, and 10 before 14
     ∷ ((strict, times 32 (ascii "(") ++ ascii "ISC" ++ times 32 (ascii ")")), read (lic "ISC" 32 35 ∷ []))
     ∷ ((strict, times 33 (ascii "(")), at 15 32 33)
+    ∷ ((lax, times 63 (ascii "mit/") ++ ascii "mit"), read (mits 64 0 ++ replicate 63 or))
     ∷ ((lax, times 64 (ascii "mit/") ++ ascii "mit"), at 14 256 259)
     ∷ ((modeOf 3, times 64 (ascii "mit/") ++ ascii "GPL-2.0"), at 10 256 263)
     ∷ ((strict, replicate 1025 0x20), at 2 0 0)
@@ -195,7 +201,7 @@ table =
 
 worked : map (λ (w : (Mode × List ℕ) × Answer). answer (w .0)) table ≡ map (λ (w : (Mode × List ℕ) × Answer). w .1) table
 unfolding
-    table answer ofResult shown addedOf nameOf lic at six terms times modeOf within lowest highest two three four decoded front charWidth
+    table answer ofResult shown addedOf nameOf lic at six terms times mits modeOf within lowest highest two three four decoded front charWidth
     firstIll whiteOf whiteWidth pastWhite over reach one begins same ends part refByte runByte seek lookup licenceTexts impreciseTexts
     licenceOf exceptionOf bytesAt licenceName exceptionName deprecatedOf gnuOf isLater stem laterOf standsFor longest impreciseOf listed
     exceptions imprecise runEnd refEnd operatorOf refOf documented impreciseAt unknownOf wordOf runOf markOf scanOf checkOf walked
