@@ -31,7 +31,6 @@ use Rattle.names.specs.Lookup.{
   impreciseOf,
 }
 use Rattle.refusal.specs.Refused.{span, numberOf, columnOf}
-use Rattle.refusal.specs.declared.Span.{Span}
 use Rattle.refusal.specs.declared.Expected.{Expected}
 use Rattle.refusal.specs.declared.Expected.the-variants as E
 use Rattle.refusal.specs.declared.Column.{Column}
@@ -40,7 +39,6 @@ use Rattle.mode.specs.declared.Mode.{Mode}
 use Rattle.mode.specs.Modes.{strict, lax, modeOf}
 use Rattle.lexer.specs.Lex.{runEnd, refEnd, operatorOf, refOf, documented, impreciseAt, unknownOf, wordOf, runOf, markOf, scanOf, checkOf}
 use Rattle.lexer.specs.Tokens.{walked, tokensOf}
-use Rattle.grammar.specs.declared.Range.{Range}
 use Rattle.grammar.specs.declared.Part.{Part}
 use Rattle.grammar.specs.declared.Part.the-variants as P
 use Rattle.grammar.specs.declared.Licence.{Licence}
@@ -52,7 +50,7 @@ use Rattle.grammar.specs.declared.Kind.{Kind}
 use Rattle.grammar.specs.declared.Kind.the-variants as K
 use Rattle.grammar.specs.declared.Node.{Node}
 use Rattle.grammar.specs.Leaves.{nameStart, gnuMove, plusMove, moveOf, tailOf}
-use Rattle.grammar.specs.Grammar.{Result, got, refused, andLevel, orLevel, parseOf}
+use Rattle.grammar.specs.Grammar.{Result, got, refused, andLevel, parseOf}
 
 -- a name in document 01's words: listed, by its bytes, or a reference, by its ranges; or none
 data Name : Type 0 where
