@@ -6,13 +6,12 @@ use Prim.Native.Nat.{ℕ, _+_, _-_, _≤_, _<_}
 use native.Mathlib.Decide.{decLt}
 use native.Mathlib.Omega.{arith}
 use lib.Dec.{ltb}
-use lib.ListN.{length, getD, length-append, List·getD-eq-default}
-use lib.Seq.{drop-at}
+use lib.ListN.{length, getD, List·getD-eq-default}
 use borrow.Author.Tests.{ltb-true, not-true}
 use Rattle.text.specs.Text.{ascii, same, ends}
 use Rattle.text.specs.TextLaws.{ends-append}
 use Rattle.text.specs.Every.{every, every-at}
-use Rattle.text.specs.Tests.{both}
+use Rattle.text.specs.Tests.{both, cond-true, cond-false}
 use Rattle.names.specs.declared.Found.{Found}
 use Rattle.names.specs.declared.Found.the-variants.{At, Nothing}
 use Rattle.names.specs.Name.{Listed, plain}
@@ -205,3 +204,62 @@ later-has-none k e =
     go : (f : Found) → some f ≡ false → f ≡ Nothing
     go (At j) q = absurd (true≢false q)
     go Nothing q = refl
+
+-- today's table: the deprecated names are the bare GNU names
+bare-deprecated-test : every (λ k. cond (isBare k) (deprecatedOf k) (not (deprecatedOf k))) (length listed) ≡ true
+unfolding every deprecatedOf gnuOf isBare ends same licenceName bytesAt licenceTexts listed
+bare-deprecated-test = refl
+
+pub bare-deprecated : (k : ℕ) → isBare k ≡ true → deprecatedOf k ≡ true
+bare-deprecated k e =
+    sym (cond-true (isBare k) (deprecatedOf k) (not (deprecatedOf k)) e)
+    ∙ every-at (λ k. cond (isBare k) (deprecatedOf k) (not (deprecatedOf k))) (length listed) k bare-deprecated-test (gnu-listed k (bare-gnu k e))
+
+pub settled-current : (k : ℕ) → isBare k ≡ false → deprecatedOf k ≡ false
+settled-current k e = go (decLt k (length listed))
+  where
+    go : Dec (k < length listed) → deprecatedOf k ≡ false
+    go (yes h) = not-true (deprecatedOf k)
+        (sym (cond-false (isBare k) (deprecatedOf k) (not (deprecatedOf k)) e)
+        ∙ every-at (λ k. cond (isBare k) (deprecatedOf k) (not (deprecatedOf k))) (length listed) k bare-deprecated-test h)
+    go (no h) = past k (omega arith) .deprecated
+
+-- a name that is not deprecated is not bare
+pub current-settled : (k : ℕ) → deprecatedOf k ≡ false → isBare k ≡ false
+current-settled k e = go (isBare k) refl
+  where
+    go : (b : Bool) → isBare k ≡ b → b ≡ false
+    go true q = absurd (true≢false (sym (bare-deprecated k q) ∙ e))
+    go false q = refl
+
+-- a name with a suffix, and one that is no GNU name, is its own "-only" name
+pub settled-no-only : (k : ℕ) → isBare k ≡ false → onlyOf k ≡ Nothing
+unfolding onlyOf
+settled-no-only k e = rw e
+
+pub other-settled : (k : ℕ) → gnuOf k ≡ false → isBare k ≡ false
+other-settled k g = past-bare k g
+
+-- what is written for a name alone: its "-only" name, or itself where it has a suffix or is no GNU name
+pub only-name : (k j : ℕ) → onlyOf k ≡ At j → licenceName j ≡ licenceName k ++ ascii "-only"
+only-name k j e = only-partner k j e .named
+
+pub no-only-settled : (k : ℕ) → onlyOf k ≡ Nothing → isBare k ≡ false
+no-only-settled k e = go (isBare k) refl
+  where
+    go : (b : Bool) → isBare k ≡ b → isBare k ≡ false
+    go true q = let w = bare-has-only k q in at-nothing (onlyOf k) (w .0) (w .1) e
+    go false q = q
+
+-- a GNU name that has no "-or-later" name does not end in "-only", so it is its own stem
+whole-test : every (λ k. cond (gnuOf k && not (some (laterOf k))) (not (ends (ascii "-only") (licenceName k))) true) (length listed) ≡ true
+unfolding every some laterOf gnuOf stem ends same licenceOf lookup seek licenceName bytesAt licenceTexts listed
+whole-test = refl
+
+pub no-later-whole : (k : ℕ) → gnuOf k ≡ true → laterOf k ≡ Nothing → stem (licenceName k) ≡ licenceName k
+unfolding stem some
+no-later-whole k g e =
+    let t = every-at (λ k. cond (gnuOf k && not (some (laterOf k))) (not (ends (ascii "-only") (licenceName k))) true) (length listed) k whole-test (gnu-listed k g) in
+    cond-false (ends (ascii "-only") (licenceName k)) _ _
+    (not-true (ends (ascii "-only") (licenceName k))
+    (then-so (gnuOf k && not (some (laterOf k))) (not (ends (ascii "-only") (licenceName k))) t (rw (g, e))))

@@ -3,6 +3,7 @@ ghost use mathlib.Core.Path.{_≡_};
 ghost use Prim.Native.Nat.{_+_, _^_, _<_, _≤_};
 ghost use lib.ListN.{getD, length, drop};
 ghost use Rattle.text.specs.Text.{begins};
+ghost use Rattle.text.specs.Overlay.{overlay};
 ghost use Rattle.names.specs.Order.{order, Ascending};
 ghost use Rattle.names.specs.Listed.{tableBytes};
 ghost use Rattle.names.specs.Layout.{rows, tableOf, words, texts, part, nameAt, startAt, markAt, afterOf};
@@ -270,4 +271,19 @@ pub fn name_byte(t: &[u64], k: usize, i: usize) -> u8
     } else {
         0
     }
+}
+
+// Writes the name k of the table into a buffer from a place on, and answers the place behind it.
+pub fn put_name(t: &[u64], k: usize, out: &mut [u8], at: usize) -> usize
+    requires { ⌜ (now t ≡ words) × (k < length rows) × (at + length (nameAt k) ≤ length (now out)) ⌝ }
+    ensures { λ r. ⌜ (r ≡ at + length (nameAt k)) × (now (out .exit) ≡ overlay at (nameAt k) (now (out .entry))) ⌝ }
+{
+    let from = start(t, k);
+    let n = len(t, k);
+    let mut i = 0;
+    while i < n {
+        out[at + i] = cell(t, from + i);
+        i += 1;
+    }
+    at + n
 }
