@@ -11,6 +11,7 @@ use Rattle.lexer.specs.declared.Token.{Token}
 use Rattle.lexer.specs.declared.Token.the-variants as T
 use Rattle.lexer.specs.Tokens.{Tokens, done, token}
 use Rattle.lexer.specs.Tokens as Lexed
+use Rattle.lexer.specs.Sign.{Sign, name, reference, unknown, exception, addition, plus, WITH, AND, OR, LP, RP, bad}
 use Rattle.grammar.specs.declared.Leaf.{Leaf}
 use Rattle.grammar.specs.declared.Kind.{Kind}
 use Rattle.grammar.specs.declared.Kind.the-variants as K
@@ -23,7 +24,7 @@ use Rattle.grammar.specs.Leaves.{rangeOf, partOf}
 use Rattle.grammar.specs.Tree.{Tree, both, either, postfix, seen, size, leaves}
 use Rattle.grammar.specs.TreeLaws.{leaves-append, leaves-postfix, size-seen}
 use Rattle.grammar.specs.Grammar.{Result, got, refused, Reader, emit, linkOf, andBy, andNext, orBy, orNext, andTail, orTail}
-use Rattle.annex.specs.Annex.{Sign, name, reference, unknown, exception, addition, plus, WITH, AND, OR, LP, RP, bad, Level, Atom, AndLevel, OrLevel}
+use Rattle.annex.specs.Annex.{Level, Atom, AndLevel, OrLevel}
 use Rattle.annex.specs.Signs.{View, signsOf, itemOf}
 
 module _ {R S : Type 0} (v : View R S) where

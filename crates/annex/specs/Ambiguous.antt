@@ -7,8 +7,9 @@ use mathlib.Core.Logic.{_↔_}
 use Prim.Native.Nat.{ℕ, _≤_}
 use native.Mathlib.Omega.{arith}
 use Rattle.mode.specs.declared.Mode.{Mode}
+use Rattle.lexer.specs.Sign.{Sign, AND, OR}
 use Rattle.grammar.specs.Tree.{Tree, both, either, meaning}
-use Rattle.annex.specs.Annex.{Sign, AND, OR, Item, Level, Atom, AndLevel, OrLevel, Derives, leaf, group, alone, joined, one, choice, Expression, Compound, simple, conj, disj, paren, looseness, Precedence, Rightward}
+use Rattle.annex.specs.Annex.{Item, Level, Atom, AndLevel, OrLevel, Derives, leaf, group, alone, joined, one, choice, Expression, Compound, simple, conj, disj, paren, looseness, Precedence, Rightward}
 use Rattle.annex.specs.Unique.{one-tree}
 
 -- how loose a level may be

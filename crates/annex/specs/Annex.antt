@@ -1,5 +1,5 @@
 -- Annex D's grammar: which lists of signs are expressions, and the tree of each. A line that begins "Annex:" restates the annex; one that
--- begins "Document 01:" is what document 01 adds to it.
+-- begins "Document 01:" is what document 01 adds to it. Signs are tokens as the grammar sees them (Sign.antt of the lexer); no rule has `bad`.
 use mathlib.Core.Path.{_≡_}
 use mathlib.Core.Bool.{Bool, true, false, not, _&&_}
 use mathlib.Core.List.{List, [], _∷_, _++_}
@@ -8,23 +8,8 @@ use Prim.Native.Nat.{ℕ, suc, max, _≤_, _<_}
 use Rattle.names.specs.Lookup.{deprecatedOf, gnuOf, isLater, laterOf}
 use Rattle.names.specs.declared.Found.the-variants.{At}
 use Rattle.mode.specs.declared.Mode.{Mode}
+use Rattle.lexer.specs.Sign.{Sign, name, reference, unknown, exception, addition, plus, WITH, AND, OR, LP, RP}
 use Rattle.grammar.specs.Tree.{Tree, just, both, either}
-
--- a token, as the grammar sees it. R is what a reference is: the ranges of its names, or their bytes. S is what a licence keeps of its place:
--- its span, or nothing. `bad` is what the lexer refuses; no rule has it.
-pub data Sign (R S : Type 0) : Type 0 where
-  name : ℕ → S → Sign R S
-  reference : R → S → Sign R S
-  unknown : R → S → Sign R S
-  exception : ℕ → Sign R S
-  addition : R → Sign R S
-  plus : Sign R S
-  WITH : Sign R S
-  AND : Sign R S
-  OR : Sign R S
-  LP : Sign R S
-  RP : Sign R S
-  bad : Sign R S
 
 -- a licence or an addition: a listed name or a reference
 pub data Named (R : Type 0) : Type 0 where

@@ -14,13 +14,14 @@ use Rattle.refusal.specs.declared.Refusal.the-variants.{TooManyLeaves, TooDeep}
 use Rattle.mode.specs.declared.Mode.{Mode}
 use Rattle.lexer.specs.declared.Token.the-variants as T
 use Rattle.lexer.specs.Tokens.{Tokens}
+use Rattle.lexer.specs.Sign.{Sign, AND, OR, LP, RP}
 use Rattle.grammar.specs.declared.Leaf.{Leaf}
 use Rattle.grammar.specs.declared.Kind.the-variants as K
 use Rattle.grammar.specs.declared.Node.{Node}
 use Rattle.grammar.specs.Tree.{Tree, just, both, either, nodeOf, postfix, size, seen, leaves}
 use Rattle.grammar.specs.Grammar.{Result, got, refused, Reader, pick, emit, close, count, atomAt, andLevel, orLevel}
 use Rattle.grammar.specs.Levels.{and-eq, or-eq}
-use Rattle.annex.specs.Annex.{Sign, AND, OR, LP, RP, Item, Level, Atom, AndLevel, OrLevel, Derives, leaf, group, alone, joined, one, choice, depth}
+use Rattle.annex.specs.Annex.{Item, Level, Atom, AndLevel, OrLevel, Derives, leaf, group, alone, joined, one, choice, depth}
 use Rattle.annex.specs.Signs.{View, signsOf, itemOf, Over}
 use Rattle.annex.specs.Unique.{Head, NoAnd, NoOr, Stops}
 use Rattle.annex.specs.Ahead.{Then, ahead, Op, by-and, by-or, of, node, tail-refused, tail-met, tail-unmet, Meets, met, unmet, meets, leaves-behind}

@@ -20,8 +20,8 @@ use Rattle.lexer.specs.Lex.{scanOf, checkOf}
 use Rattle.lexer.specs.Ahead.{Answer, ended, mark, word, invalid, unknown, apart, scan-answer}
 use Rattle.lexer.specs.Tokens.{Tokens, done, token, andThen, walked, tokensOf}
 use Rattle.lexer.specs.Tokens as Lexed
+use Rattle.lexer.specs.Sign.{Sign}
 use Rattle.grammar.specs.Grammar.{refused, readIf, parseOf}
-use Rattle.annex.specs.Annex.{Sign}
 use Rattle.annex.specs.Signs.{View, signOf}
 use Rattle.annex.specs.Faults.{Begins, Dead, Not, setAfter, Split, here, next, Reason, lexical, unexpected, unended, Fault}
 use Rattle.annex.specs.Judge.{Blamed, blamed}

@@ -16,12 +16,13 @@ use Rattle.mode.specs.declared.Mode.{Mode}
 use Rattle.lexer.specs.declared.Token.{Token}
 use Rattle.lexer.specs.declared.Token.the-variants as T
 use Rattle.lexer.specs.Tokens.{Tokens, done, refused, token}
+use Rattle.lexer.specs.Sign.{Sign, name, reference, unknown, exception, addition, plus, WITH, AND, OR, LP, RP, bad}
 use Rattle.grammar.specs.declared.Leaf.{Leaf}
 use Rattle.grammar.specs.declared.Before.{Before}
 use Rattle.grammar.specs.declared.Start.the-variants as Start
 use Rattle.grammar.specs.Leaves.{startOf}
 use Rattle.grammar.specs.Tree.{Tree}
-use Rattle.annex.specs.Annex.{Sign, name, reference, unknown, exception, addition, plus, WITH, AND, OR, LP, RP, bad, Item, Expression}
+use Rattle.annex.specs.Annex.{Item, Expression}
 use Rattle.annex.specs.Signs.{View, signOf, signsOf}
 
 module _ {R S : Type 0} (m : Mode) where

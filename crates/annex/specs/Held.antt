@@ -15,6 +15,7 @@ use Rattle.lexer.specs.declared.Checked.the-variants.{Fine, Bad}
 use Rattle.lexer.specs.Lex.{checkOf}
 use Rattle.lexer.specs.Tokens.{Tokens, done, token, tokensOf}
 use Rattle.lexer.specs.Tokens as Lexed
+use Rattle.lexer.specs.Sign.{Sign}
 use Rattle.grammar.specs.declared.Leaf.{Leaf}
 use Rattle.grammar.specs.declared.Node.{Node}
 use Rattle.grammar.specs.declared.Before.{Before}
@@ -23,7 +24,7 @@ use Rattle.grammar.specs.declared.Link.the-variants as N
 use Rattle.grammar.specs.Tree.{Tree, postfix, size, seen, IsTree, leaves}
 use Rattle.grammar.specs.Grammar.{Result, got, refused, unexpected, linkOf, endBy, end, count, orLevel, read, readIf, parseOf}
 use Rattle.grammar.specs.TreeLaws.{leaves-postfix, postfix-one, size-seen}
-use Rattle.annex.specs.Annex.{Sign, Item, OrLevel, Expression, depth}
+use Rattle.annex.specs.Annex.{Item, OrLevel, Expression, depth}
 use Rattle.annex.specs.Signs.{View, signsOf, itemOf, Fits, Over, Says}
 use Rattle.annex.specs.Unique.{clash, one-tree}
 use Rattle.annex.specs.Complete.{Answers, answers}

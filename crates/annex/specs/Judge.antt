@@ -26,6 +26,7 @@ use Rattle.lexer.specs.declared.Token.{Token}
 use Rattle.lexer.specs.declared.Token.the-variants as T
 use Rattle.lexer.specs.Tokens.{Tokens, done, token}
 use Rattle.lexer.specs.Tokens as Lexed
+use Rattle.lexer.specs.Sign.{Sign, name, reference, unknown, exception, addition, WITH, AND, OR, LP, RP}
 use Rattle.grammar.specs.declared.Leaf.{Leaf}
 use Rattle.grammar.specs.declared.Part.the-variants as P
 use Rattle.grammar.specs.declared.Kind.the-variants as K
@@ -87,52 +88,7 @@ use Rattle.grammar.specs.Grammar.{
   orLevel,
   read,
 }
-use Rattle.annex.specs.Annex.{
-  Sign,
-  name,
-  reference,
-  unknown,
-  exception,
-  addition,
-  WITH,
-  AND,
-  OR,
-  LP,
-  RP,
-  Named,
-  listed,
-  referred,
-  Item,
-  item,
-  adding,
-  Allowed,
-  id,
-  id-later,
-  ref,
-  gnu-later,
-  term,
-  Additions,
-  listed-one,
-  ref-one,
-  term-one,
-  term-more,
-  Operand,
-  bare,
-  with,
-  Level,
-  Atom,
-  AndLevel,
-  OrLevel,
-  Derives,
-  leaf,
-  group,
-  alone,
-  joined,
-  one,
-  choice,
-  depth,
-  Expression,
-}
+use Rattle.annex.specs.Annex.{Named, listed, referred, Item, item, adding, Allowed, id, id-later, ref, gnu-later, term, Additions, listed-one, ref-one, term-one, term-more, Operand, bare, with, Level, Atom, AndLevel, OrLevel, Derives, leaf, group, alone, joined, one, choice, depth, Expression}
 use Rattle.annex.specs.Signs.{View, signOf, itemOf}
 use Rattle.annex.specs.Unique.{clash}
 use Rattle.annex.specs.Ahead.{Linked, an-and, an-or, a-close, other, linked, Op, by-and, by-or, of, node, tail-refused, tail-met, tail-unmet, Meets, met, unmet, meets, leaves-behind}

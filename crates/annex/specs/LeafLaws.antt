@@ -14,6 +14,7 @@ use Rattle.lexer.specs.declared.Doc.the-variants as D
 use Rattle.lexer.specs.declared.Token.{Token}
 use Rattle.lexer.specs.declared.Token.the-variants as T
 use Rattle.lexer.specs.Tokens.{Tokens, done, refused, token}
+use Rattle.lexer.specs.Sign.{Sign}
 use Rattle.grammar.specs.declared.Leaf.{Leaf}
 use Rattle.grammar.specs.declared.Before.{Before}
 use Rattle.grammar.specs.declared.Before.the-variants.{Listed, Term, Suffixed, With, Added}
@@ -22,7 +23,7 @@ use Rattle.grammar.specs.declared.Move.{Move}
 use Rattle.grammar.specs.declared.Move.the-variants.{Goes, Ends, Fails}
 use Rattle.grammar.specs.Leaves.{listedLeaf, refLeaf, plussed, renamed, withListed, withRef, takesWith, isWith, startOf, nameStart, gnuMove, plusMove, tailMove, moveOf, moved, Tail, whole, broken, tailOf}
 use Rattle.grammar.specs.Grammar.{count}
-use Rattle.annex.specs.Annex.{Sign, Named, listed, referred, Item, item, adding, Allowed, Simple, id, id-later, ref, gnu-later, term, Additions, listed-one, ref-one, term-one, term-more, Operand, bare, with}
+use Rattle.annex.specs.Annex.{Named, listed, referred, Item, item, adding, Allowed, Simple, id, id-later, ref, gnu-later, term, Additions, listed-one, ref-one, term-one, term-more, Operand, bare, with}
 use Rattle.annex.specs.Signs.{View, signOf, signsOf, itemOf}
 use Rattle.annex.specs.Unique.{NoTail, Head}
 use Rattle.annex.specs.Ahead.{ahead}

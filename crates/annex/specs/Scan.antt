@@ -8,50 +8,12 @@ use native.Mathlib.Omega.{arith}
 use Rattle.refusal.specs.declared.Expected.{Expected}
 use Rattle.refusal.specs.declared.Expected.the-variants as E
 use Rattle.mode.specs.declared.Mode.{Mode}
+use Rattle.lexer.specs.Sign.{Sign, name, reference, unknown, exception, addition, plus, WITH, AND, OR, LP, RP, bad}
 use Rattle.grammar.specs.declared.Before.{Before}
 use Rattle.grammar.specs.declared.Before.the-variants.{Nothing, Joint, Listed, Term, Suffixed, With, Added, Closed}
 use Rattle.grammar.specs.Leaves.{expectedAfter, takesWith}
 use Rattle.grammar.specs.Tree.{Tree, size}
-use Rattle.annex.specs.Annex.{
-  Sign,
-  name,
-  reference,
-  unknown,
-  exception,
-  addition,
-  plus,
-  WITH,
-  AND,
-  OR,
-  LP,
-  RP,
-  bad,
-  Named,
-  Item,
-  Simple,
-  id,
-  id-later,
-  ref,
-  gnu-later,
-  term,
-  Additions,
-  listed-one,
-  ref-one,
-  term-one,
-  term-more,
-  Operand,
-  bare,
-  with,
-  Level,
-  Derives,
-  leaf,
-  group,
-  alone,
-  joined,
-  one,
-  choice,
-  Expression,
-}
+use Rattle.annex.specs.Annex.{Named, Item, Simple, id, id-later, ref, gnu-later, term, Additions, listed-one, ref-one, term-one, term-more, Operand, bare, with, Level, Derives, leaf, group, alone, joined, one, choice, Expression}
 use Rattle.annex.specs.Faults.{Begins, Dead, Not, weight, opening, closing, joining, setBehind, setFrom, setAfter}
 
 -- so many parentheses are open, behind such a token; or no expression begins so

@@ -11,6 +11,7 @@ use Rattle.mode.specs.declared.Mode.{Mode}
 use Rattle.lexer.specs.declared.Token.{Token}
 use Rattle.lexer.specs.declared.Token.the-variants as T
 use Rattle.lexer.specs.Tokens.{Tokens, done, refused, token}
+use Rattle.lexer.specs.Sign.{Sign, name, reference, unknown, exception, addition, plus, WITH, AND, OR, LP, RP, bad}
 use Rattle.grammar.specs.declared.Range.{Range}
 use Rattle.grammar.specs.declared.Part.{Part}
 use Rattle.grammar.specs.declared.Part.the-variants as P
@@ -23,7 +24,7 @@ use Rattle.grammar.specs.Tree.{Tree, size, seen, postfix}
 use Rattle.grammar.specs.Leaves.{rangeOf, partOf}
 use Rattle.grammar.specs.Grammar.{Result, got}
 use Rattle.grammar.specs.Grammar as Grammar
-use Rattle.annex.specs.Annex.{Sign, name, reference, unknown, exception, addition, plus, WITH, AND, OR, LP, RP, bad, Named, listed, referred, Item, Expression, depth}
+use Rattle.annex.specs.Annex.{Named, listed, referred, Item, Expression, depth}
 
 -- what is seen of a reference, by the ranges of its document part and its name, and of a licence's place
 pub record View (R S : Type 0) : Type 0 where

@@ -4,8 +4,8 @@ use mathlib.Core.List.{List, _∷_, _++_}
 use Prim.Native.Nat.{_≤_}
 use native.Mathlib.Omega.{arith}
 use Rattle.lexer.specs.Tokens.{Tokens}
+use Rattle.lexer.specs.Sign.{Sign}
 use Rattle.grammar.specs.Grammar.{count}
-use Rattle.annex.specs.Annex.{Sign}
 use Rattle.annex.specs.Signs.{View, signOf, signsOf}
 use Rattle.annex.specs.Faults.{Split, here, next}
 

@@ -4,8 +4,9 @@ use mathlib.Core.List.{List, [], _∷_, _++_, append-assoc}
 use Prim.Native.Nat.{ℕ}
 use native.Mathlib.Omega.{arith}
 use Rattle.mode.specs.declared.Mode.{Mode}
+use Rattle.lexer.specs.Sign.{Sign, name, reference, unknown, exception, addition, plus, WITH, AND, OR, LP, RP, bad}
 use Rattle.grammar.specs.Tree.{Tree, just}
-use Rattle.annex.specs.Annex.{Sign, name, reference, unknown, exception, addition, plus, WITH, AND, OR, LP, RP, bad, Named, Item, Simple, id, id-later, ref, gnu-later, term, Additions, listed-one, ref-one, term-one, term-more, Operand, bare, with, Level, Atom, AndLevel, OrLevel, Derives, leaf, group, alone, joined, one, choice, depth, Expression}
+use Rattle.annex.specs.Annex.{Named, Item, Simple, id, id-later, ref, gnu-later, term, Additions, listed-one, ref-one, term-one, term-more, Operand, bare, with, Level, Atom, AndLevel, OrLevel, Derives, leaf, group, alone, joined, one, choice, depth, Expression}
 
 -- what is asked of a `+` or WITH, of AND and of OR; nothing is asked of another sign
 abbrev pub Asked : {R S : Type 0} → Type 0 → Type 0 → Type 0 → Sign R S → Type 0

@@ -116,7 +116,7 @@ document-all : All refByte (ascii "DocumentRef-")
 unfolding allOf refByte within
 document-all = all-of refByte (ascii "DocumentRef-") refl
 
-document-ge : (s : List ℕ) (p : ℕ) → begins (ascii "DocumentRef-") (drop p s) ≡ true → p + 12 ≤ refEnd s p
+pub document-ge : (s : List ℕ) (p : ℕ) → begins (ascii "DocumentRef-") (drop p s) ≡ true → p + 12 ≤ refEnd s p
 unfolding refEnd
 document-ge s p e =
     let w : refEnd s p ≡ refEnd s (p + 12) = walk-word refByte ref-zero (ascii "DocumentRef-") s p document-all e in

@@ -1,5 +1,9 @@
 pub mod Lex
 pub mod Tokens
+pub mod Sign
+pub mod Spelling
+pub mod Standing
+pub mod Apart
 pub mod Shape
 pub mod LexLaws
 pub mod RunLaws
@@ -9,5 +13,9 @@ pub mod Agree
 pub mod Between
 pub mod TokensLaws
 pub mod Flags
+pub mod Moved
+pub mod Spelled
+pub mod Back
+pub mod StandingLaws
 pub mod Worked
 pub mod Unique
