@@ -1,0 +1,1 @@
+// Laws only: the canonical text, read again in STRICT.
