@@ -5,6 +5,7 @@ mod lines;
 mod nodes;
 mod questions;
 mod refusals;
+mod rewrites;
 mod tokens;
 mod write;
 

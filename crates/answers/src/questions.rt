@@ -8,6 +8,7 @@ use crate::fields::Decoded;
 use crate::fields::MOST;
 use crate::floors;
 use crate::nodes;
+use crate::rewrites;
 use crate::tokens;
 use crate::write;
 use crate::write::Out;
@@ -37,6 +38,9 @@ fn on_number_text(t: &[u64], word: &[u8], x: u64, s: &[u8], out: &mut Out, at: u
 {
     if text::equal(word, b"parse") {
         return nodes::parse(t, x, s, out, at);
+    }
+    if text::equal(word, b"canonical") {
+        return rewrites::canonical(x, s, out, at);
     }
     if text::equal(word, b"char") {
         return floors::char(x, s, out, at);

@@ -75,3 +75,23 @@ pub(crate) fn exception(out: &mut Out, at: usize, t: &[u64], k: usize) -> usize
         byte(out, at, b' ')
     }
 }
+
+fn digit(d: u8) -> u8 {
+    text::byte(b"0123456789abcdef", d as usize)
+}
+
+// Puts bytes as hex digits, `-` where there are none.
+pub(crate) fn hex(out: &mut Out, at: usize, s: &[u8]) -> usize {
+    let mut n = byte(out, at, b' ');
+    if s.len() == 0 {
+        return byte(out, n, b'-');
+    }
+    let mut i = 0;
+    while i < s.len() {
+        let b = s[i];
+        n = byte(out, n, digit(b / 16));
+        n = byte(out, n, digit(b % 16));
+        i += 1;
+    }
+    n
+}

@@ -1,8 +1,10 @@
-// What the benchmark links: a parse whose answer is used, any of its nodes, so that none of it can be left out.
+// What the benchmark links: a parse and a canonical text whose answers are used, so that none of them can be left out.
 ghost use mathlib.Core.Path.{_≡_};
 ghost use Rattle.mode.specs.Modes.{modeOf};
 ghost use Rattle.grammar.specs.Grammar.{parseOf, answerOf};
-ghost use Rattle.bench.specs.Digest.{weightOf, numberIn, digestOf};
+ghost use Rattle.canonical.specs.Canonical.{canonicalOf, bufferOf};
+ghost use Rattle.bench.specs.Digest.{weightOf, numberIn, digestOf, answerWeight, canonicalDigest};
+use canonical::Answer;
 use parser::Kind;
 use parser::Mode;
 use parser::Outcome;
@@ -41,4 +43,23 @@ pub extern "C" fn parse_digest(s: &[u8], mode: u8, pick: usize) -> u64
     let low = weight(kind) as u64;
     let high = number(outcome) as u64;
     high * 0x100_0000 + count * 0x1_0000 + low
+}
+
+fn weigh(a: Answer) -> u64
+    ensures { λ r. ⌜ r ≡ answerWeight a ⌝ }
+{
+    match a {
+        Answer::Unchanged => 0,
+        Answer::Written(n) => n as u64,
+        Answer::Refused(r) => refusal::number(r) as u64,
+    }
+}
+
+// How long the canonical text is that was written, or the refusal's number.
+#[no_mangle]
+pub extern "C" fn canonical_digest(s: &[u8], out: &mut [u8]) -> u64
+    ensures { λ r. ⌜ (r ≡ canonicalDigest (now (s .entry)) (now (out .entry)))
+        × (now (out .exit) ≡ bufferOf (now (s .entry)) (now (out .entry)) (canonicalOf (now (s .entry)))) ⌝ }
+{
+    weigh(canonical::canonical(s, out))
 }
