@@ -57,7 +57,7 @@ fn stream(kind: &Kind, seed: u64) -> impl Iterator<Item = String> + use<> {
 }
 
 /// A text by the grammar in the mode, a damaged one, a sequence of tokens, or one of nearly the longest.
-fn random_text(random: &mut Random, flags: u8) -> Text {
+pub fn random_text(random: &mut Random, flags: u8) -> Text {
     let text = grammatical(random, flags).into_bytes();
     match random.below(8) {
         0..=3 => text,

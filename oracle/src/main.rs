@@ -19,6 +19,7 @@ mod pieces;
 mod posed;
 mod protocol;
 mod random;
+mod reread;
 mod texts;
 mod worked;
 
@@ -31,6 +32,10 @@ const USAGE: &str = "usage:
   oracle generate KIND --seed N --count K      writes K questions of a kind
   oracle exhaustive [N]                        writes parse questions for all sequences of up to N tokens
   oracle measured --seed N --count K           writes K texts that read for the benchmark, and K that do not
+  oracle reread ask --seed N --count K         writes questions on K texts that read in LAX
+  oracle reread again QUESTIONS ANSWERS        writes questions on their canonical texts
+  oracle reread compare QUESTIONS ANSWERS ANSWERS
+                                               shows where a canonical text reads otherwise
   oracle compare ANSWERS ANSWERS QUESTIONS     shows where two files of answers differ
   oracle worked FILE                           runs lines QUESTION => ANSWER
   oracle minimizer [--slow]                    runs the given minimizer beyond 30 found licensees
@@ -60,6 +65,9 @@ fn run(arguments: &[&str]) -> io::Result<bool> {
         ["exhaustive"] => exhaustive(exhaustive::TOKENS),
         ["exhaustive", tokens] => exhaustive(numeric(tokens)? as usize),
         ["measured", "--seed", seed, "--count", count] => measured(numeric(seed)?, numeric(count)?),
+        ["reread", "ask", "--seed", seed, "--count", count] => reread_ask(numeric(seed)?, numeric(count)?),
+        ["reread", "again", questions, answers] => reread_again(questions, answers),
+        ["reread", "compare", questions, answers, second] => Ok(reread::compare(questions, answers, second)? == 0),
         ["compare", first, second, questions] => Ok(compare::compare(first, second, questions)? == 0),
         ["worked", path] => Ok(worked::run(path)? == 0),
         ["minimizer"] => {
@@ -106,6 +114,20 @@ fn exhaustive(tokens: usize) -> io::Result<bool> {
 fn measured(seed: u64, count: u64) -> io::Result<bool> {
     let mut output = BufWriter::new(io::stdout().lock());
     measured::lines(seed, count, |line| writeln!(output, "{line}"))?;
+    output.flush()?;
+    Ok(true)
+}
+
+fn reread_ask(seed: u64, count: u64) -> io::Result<bool> {
+    let mut output = BufWriter::new(io::stdout().lock());
+    reread::ask(seed, count, |line| writeln!(output, "{line}"))?;
+    output.flush()?;
+    Ok(true)
+}
+
+fn reread_again(questions: &str, answers: &str) -> io::Result<bool> {
+    let mut output = BufWriter::new(io::stdout().lock());
+    reread::again(questions, answers, |line| writeln!(output, "{line}"))?;
     output.flush()?;
     Ok(true)
 }

@@ -32,13 +32,14 @@ pub fn lines<E>(seed: u64, count: u64, mut write: impl FnMut(String) -> Result<(
 fn wanted(random: &mut Random, reads: bool, make: impl Fn(&mut Random) -> Text) -> Text {
     loop {
         let text = make(random);
-        if (SHORTEST..=LONGEST).contains(&text.len()) && read(&text) == reads {
+        if (SHORTEST..=LONGEST).contains(&text.len()) && self::reads(&text) == reads {
             return text;
         }
     }
 }
 
-fn read(text: &[u8]) -> bool {
+/// Does a text read in LAX, within the limits?
+pub fn reads(text: &[u8]) -> bool {
     document::checked_text(text).is_ok_and(|text| {
         let (words, _) = given::words(text, LAX);
         document::first_past_limit(&words).is_none() && given::parse(text, LAX).is_ok()
