@@ -1,14 +1,14 @@
 -- Laws of the definitions: the character at a place, how wide it is, which bytes it has, and white space.
 use Prim.Native.Nat.{ℕ, suc, _+_, _*_, _%_, _<_, _≤_}
 use mathlib.Core.Path.{_≡_, refl, sym, ap, _∙_}
-use mathlib.Core.Bool.{Bool, true, false, cond, _&&_, and-true, and-assoc, or-true, false≢true}
+use mathlib.Core.Bool.{Bool, true, false, cond, _&&_, or-true, false≢true}
 use mathlib.Core.List.{List, [], _∷_}
 use mathlib.Core.Logic.{_⊎_, inl, inr}
-use native.Mathlib.Numerals.{add-one}
+use native.Mathlib.Decide.{decLt}
 use native.Mathlib.Omega.{arith}
 use borrow.Author.Tests.{le-leb, ne-eqb, leb-true}
 use lib.Dec.{leb, eqb}
-use lib.ListN.{length, getD, drop, drop-of-length-le}
+use lib.ListN.{length, getD, drop, drop-of-length-le, List·getD-eq-default}
 use lib.Seq.{drop-cons, getD-drop}
 use Rattle.text.specs.Text.{within}
 use Rattle.text.specs.Tests.{both, by-cond, cond-true, cond-false}
@@ -157,6 +157,21 @@ white-is c t e w = rw (← e) (sym (cond-true (whiteOf (c .code)) (c .width) 0 w
 pub white-not : (c : Char) (t : List ℕ) → c ≡ front t → whiteOf (c .code) ≡ false → 0 ≡ whiteWidth t
 unfolding whiteWidth
 white-not c t e w = rw (← e) (sym (cond-false (whiteOf (c .code)) (c .width) 0 w))
+
+-- how wide an ASCII byte is, as a character and as white space
+pub ascii-width : (s : List ℕ) (at : ℕ) → at < length s → getD s at 0 ≤ 0x7F → 1 ≡ charWidth (drop at s)
+unfolding charWidth
+ascii-width s at h k = sym (ap (λ (c : Char). c .width) (front-ascii s at h k))
+
+pub ascii-white : (s : List ℕ) (at : ℕ) → getD s at 0 ≤ 0x7F → cond (whiteOf (getD s at 0)) 1 0 ≡ whiteWidth (drop at s)
+unfolding whiteWidth whiteOf within
+ascii-white s at k = go (decLt at (length s))
+  where
+    go : Dec (at < length s) → cond (whiteOf (getD s at 0)) 1 0 ≡ cond (whiteOf (front (drop at s) .code)) (front (drop at s) .width) 0
+    go (yes h) = sym (ap (λ (c : Char). cond (whiteOf (c .code)) (c .width) 0) (front-ascii s at h k))
+    go (no h) =
+        let k : length s ≤ at = omega arith in
+        rw (front-end s at k, List·getD-eq-default s 0 k)
 
 -- the code points of white space that stand alone
 abbrev pub Single : ℕ → Type 0

@@ -1,5 +1,6 @@
 // UTF-8: is a text well-formed, which character stands at a place, is it white space.
 ghost use mathlib.Core.Path.{_≡_};
+ghost use mathlib.Core.Bool.{cond};
 ghost use lib.ListN.{drop};
 ghost use Rattle.text.specs.Every.{allOf};
 ghost use Rattle.utf8.specs.Utf8.{asciiByte, lowest, highest, two, three, four, decoded, front, charWidth, firstIll, insideOf, whiteOf, whiteWidth, pastWhite};
@@ -132,9 +133,15 @@ pub fn char_at(s: &[u8], at: usize) -> Char
     )
 }
 
+// Nearly all of a text is ASCII, so such a byte is looked at by itself.
 fn char_width(s: &[u8], at: usize) -> usize
     ensures { λ r. ⌜ r ≡ charWidth (drop at (now (s .entry))) ⌝ }
 {
+    if at < s.len() {
+        if s[at] <= 0x7F {
+            return 1;
+        }
+    }
     char_at(s, at).width
 }
 
@@ -178,9 +185,21 @@ pub fn inside(s: &[u8], at: usize) -> bool
     text::between(0x80, 0xBF, text::byte(s, at))
 }
 
+// How wide an ASCII byte is as white space.
+fn ascii_white(b: u8) -> usize
+    ensures { λ r. ⌜ r ≡ cond (whiteOf b) 1 0 ⌝ }
+{
+    if is_white(b as u32) { 1 } else { 0 }
+}
+
+// An ASCII byte is looked at by itself; past the end stands 0, which is no white space.
 fn white_width(s: &[u8], at: usize) -> usize
     ensures { λ r. ⌜ r ≡ whiteWidth (drop at (now (s .entry))) ⌝ }
 {
+    let b = text::byte(s, at);
+    if b <= 0x7F {
+        return ascii_white(b);
+    }
     let c = char_at(s, at);
     if is_white(c.code) { c.width } else { 0 }
 }
