@@ -101,7 +101,7 @@ table =
     ∷ ((1, replicate 1025 0x20), at 2 0 0 1)
     ∷ ((1, ascii "+" ++ (0xE9 ∷ [])), at 1 1 2 1)
     -- four times the text is tight
-    ∷ ((0, times 256 (ascii "/")), short 1024 0)
+    ∷ ((0, times 1024 (ascii "/")), short 4096 0)
     ∷ []
 
 worked : map (λ (w : (ℕ × List ℕ) × Shown). answer (w .0)) table ≡ map (λ (w : (ℕ × List ℕ) × Shown). w .1) table
