@@ -54,10 +54,10 @@ fn same_answers() {
     for text in ["foo", "foo+", "MIT WITH a WITH b"] {
         row(&format!("`{text}`, unknown terms allowed"), &nodes(text, unknown), &our_nodes(UNKNOWN, text));
     }
-    for text in ["GPL-2.0", "GPL-2.0-only+", "GPL-2.0-or-later+"] {
+    for text in ["GPL-2.0", "GPL-2.0-only+", "GPL-2.0-or-later+", "LicenseRef- MIT"] {
         row(&format!("`{text}`, LAX"), &nodes(text, ParseMode::LAX), &our_nodes(LAX, text));
     }
-    for text in ["GPL-3.0-or-later+", "GPL-3.0-only+", "MIT MIT", " "] {
+    for text in ["GPL-3.0-or-later+", "GPL-3.0-only+", "MIT MIT", " ", "LicenseRef- MIT"] {
         row(&format!("`{text}`, canonical"), &canonical(text), &our_canonical(text));
     }
 }
