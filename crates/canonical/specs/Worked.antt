@@ -1,5 +1,5 @@
 -- The worked texts of document 01 that speak of canonical text, and texts at the edges of its rules: one table, computed, under one claim. A
--- refusal is its number and last column; the answer's size is that of the lent buffer.
+-- question is the size of the lent buffer and the text; a refusal is its number and last column.
 use Prim.Native.Nat.{ℕ, zero, suc}
 use Prim.Native.String.{String}
 use mathlib.Core.Path.{_≡_, refl}
