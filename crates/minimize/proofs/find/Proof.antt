@@ -1,0 +1,98 @@
+-- The licensees stored so far are those found among the ones listed so far.
+use Prim.Native.Nat.{_≤_, _-_}
+use mathlib.Core.Path.{_≡_, refl, sym, _∙_}
+use native.Mathlib.Omega.{arith}
+use lib.ListN.{length, length-set}
+use borrow.Author.Needs.{needs}
+use borrow.Author.Tests.{not-true, not-false}
+use Rattle.minimize.specs.Minimize.{foundAfter}
+use Rattle.minimize.specs.Posed.{triples, foundTerms}
+use Rattle.minimize.specs.TripleLaws.{triples-push}
+use Rattle.minimize.specs.ArrayLaws.{found-new, found-known, found-unwanted}
+use Rattle.minimize.proofs.find.Statement.{statement}
+use Rattle.minimize.proofs.find.Tie as tie
+
+abbrev Inv-loop : tie.InvT-loop
+Inv-loop f s n count listed-kinds listed-licences listed-additions asked-kinds asked-licences asked-additions kinds₀ licences₀ additions₀ k₀ i₀ kinds licences additions k i =
+    (i ≤ count) × (k ≤ i)
+    × (triples kinds licences additions k
+    ≡ foundTerms f s (triples asked-kinds asked-licences asked-additions n) (triples listed-kinds listed-licences listed-additions i))
+    × (length kinds ≡ 64) × (length licences ≡ 64) × (length additions ≡ 64)
+
+abbrev μ-loop : tie.MeasureT-loop
+μ-loop f s n count listed-kinds listed-licences listed-additions asked-kinds asked-licences asked-additions kinds₀ licences₀ additions₀ k₀ i₀ kinds licences additions k i = count - i
+
+loop-holds : tie.Need-loop-holds Inv-loop μ-loop
+unfolding triples foundTerms foundAfter
+loop-holds c = (omega arith, omega arith, refl, refl, refl, refl)
+
+loop-again : tie.Need-loop-again Inv-loop μ-loop
+loop-again c =
+    let l = c .before .before .before .before .before .before .before .before .before .before .before .loop in
+    let v = l .inv in
+    let w = sym (c .before .before .before .before .before .before .is-wanted .ensures) ∙ c .before .before .before .before .before .if1 .taken in
+    let n = sym (c .before .is-known .ensures) ∙ not-true _ (c .if2 .taken) in (
+      omega arith,
+      omega arith,
+      triples-push _ _ _ (l .k) _ _ _ (omega arith) (omega arith) (omega arith) ∙ found-new _ _ _ _ _ _ (l .i) _ (v .2) w n,
+      rw length-set (v .3),
+      rw length-set (v .4),
+      rw length-set (v .5),
+    )
+
+loop-again-2 : tie.Need-loop-again-2 Inv-loop μ-loop
+loop-again-2 c =
+    let l = c .before .before .before .before .before .before .before .before .before .before .before .loop in
+    let v = l .inv in
+    let w = sym (c .before .before .before .before .before .before .is-wanted .ensures) ∙ c .before .before .before .before .before .if1 .taken in
+    let n = sym (c .before .is-known .ensures) ∙ not-false _ (c .if2 .left) in
+    (omega arith, omega arith, found-known _ _ _ _ _ _ (l .i) _ (v .2) w n, v .3, v .4, v .5)
+
+loop-again-3 : tie.Need-loop-again-3 Inv-loop μ-loop
+loop-again-3 c =
+    let l = c .before .before .before .before .before .before .loop in
+    let v = l .inv in
+    let w = sym (c .before .is-wanted .ensures) ∙ c .if1 .left in
+    (omega arith, omega arith, found-unwanted _ _ _ _ _ _ (l .i) _ (v .2) w, v .3, v .4, v .5)
+
+returns : tie.Need-returns Inv-loop μ-loop
+returns c =
+    let l = c .before .loop in
+    let v = l .inv in
+    let e : l .i ≡ c .before .before .before .before .before .before .before .before .before .before .args .a .count = omega arith in
+    (rw e at (v .2), omega arith, v .3, v .4, v .5)
+
+pub find-spec : {M : Type 1} → statement M
+find-spec =
+    tie.close
+    (tie.spec
+    Inv-loop
+    μ-loop
+    loop-holds
+    (λ c. omega arith)
+    (λ c. omega arith)
+    (λ c. omega arith)
+    (λ c. omega arith)
+    (λ c. omega arith)
+    (λ c. omega arith)
+    (λ c. omega arith)
+    (λ c. omega arith)
+    (λ c. omega arith)
+    (λ c κs. search needs)
+    (λ c. omega arith)
+    (λ c. omega arith)
+    (λ c. omega arith)
+    (λ c κs. search needs)
+    (λ c. omega arith)
+    (λ c. omega arith)
+    (λ c. omega arith)
+    (λ c. omega arith)
+    (λ c. omega arith)
+    (λ c. omega arith)
+    (λ c. omega arith)
+    loop-again
+    (λ c. omega arith)
+    loop-again-2
+    (λ c. omega arith)
+    loop-again-3
+    returns)

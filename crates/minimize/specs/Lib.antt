@@ -1,0 +1,12 @@
+pub mod ArrayLaws
+pub mod ListLaws
+pub mod Minimize
+pub mod Posed
+pub mod PosedLaws
+pub mod ProblemLaws
+pub mod Rises
+pub mod Satisfaction
+pub mod Third
+pub mod TripleLaws
+pub mod Unique
+pub mod Worked

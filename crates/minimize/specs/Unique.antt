@@ -1,0 +1,12 @@
+-- No second answer fits the contract of a public function of this crate: text, mode, list file, cursor and budget decide it.
+use Prim.Native.Nat.{ℕ}
+use mathlib.Core.List.{List}
+use Rattle.text.specs.One.{One, one}
+use Rattle.mode.specs.declared.Mode.{Mode}
+use Rattle.minimize.specs.Minimize.{choiceOf, listingOf}
+
+choice-one : (s : List ℕ) (m : Mode) (f : List ℕ) (b : ℕ) → One (choiceOf s m f b)
+choice-one s m f b = one (choiceOf s m f b)
+
+listing-one : (s : List ℕ) (m : Mode) (f : List ℕ) (c b : ℕ) → One (listingOf s m f c b)
+listing-one s m f c b = one (listingOf s m f c b)
