@@ -1,7 +1,9 @@
 // Answers questions: a line of standard output for each line of standard input.
+mod choices;
 mod fields;
 mod floors;
 mod lines;
+mod lists;
 mod nodes;
 mod questions;
 mod refusals;

@@ -1,5 +1,5 @@
--- What the benchmark's functions answer: a number that every part of a parse goes into, by the node that is picked; and one of a canonical text's
--- answer, whose buffer is what it is.
+-- What the benchmark's functions answer: a number that every part of a parse goes into, by the node that is picked; one of a canonical text's
+-- answer, whose buffer is what it is; and one of a choice.
 use Prim.Native.Nat.{ℕ, _+_, _*_, _%_}
 use mathlib.Core.List.{List}
 use lib.ListN.{getD}
@@ -13,6 +13,8 @@ use Rattle.grammar.specs.Grammar.{blank}
 use Rattle.canonical.specs.declared.Answer.{Answer}
 use Rattle.canonical.specs.declared.Answer.the-variants as C
 use Rattle.canonical.specs.Canonical.{canonicalOf, answerOf}
+use Rattle.masks.specs.declared.Choice.{Choice}
+use Rattle.masks.specs.declared.Choice.the-variants as M
 
 abbrev pub weightOf : Kind → ℕ
 weightOf K.Blank = 0
@@ -35,3 +37,8 @@ answerWeight (C.Refused r) = numberOf r
 -- the text s, where the buffer b is lent
 abbrev pub canonicalDigest : List ℕ → List ℕ → ℕ
 canonicalDigest s b = answerWeight (answerOf s b (canonicalOf s))
+
+abbrev pub choiceWeight : Choice → ℕ
+choiceWeight (M.Mask m) = m
+choiceWeight (M.Paused p) = p
+choiceWeight (M.Refused r) = numberOf r

@@ -1,10 +1,12 @@
-// What the benchmark links: a parse and a canonical text whose answers are used, so that none of them can be left out.
+// What the benchmark links: a parse, a canonical text and a choice whose answers are used, so that none of them can be left out.
 ghost use mathlib.Core.Path.{_≡_};
 ghost use Rattle.mode.specs.Modes.{modeOf};
 ghost use Rattle.grammar.specs.Grammar.{parseOf, answerOf};
 ghost use Rattle.canonical.specs.Canonical.{canonicalOf, bufferOf};
-ghost use Rattle.bench.specs.Digest.{weightOf, numberIn, digestOf, answerWeight, canonicalDigest};
+ghost use Rattle.minimize.specs.Minimize.{choiceOf};
+ghost use Rattle.bench.specs.Digest.{weightOf, numberIn, digestOf, answerWeight, canonicalDigest, choiceWeight};
 use canonical::Answer;
+use minimize::Choice;
 use parser::Kind;
 use parser::Mode;
 use parser::Outcome;
@@ -62,4 +64,22 @@ pub extern "C" fn canonical_digest(s: &[u8], out: &mut [u8]) -> u64
         × (now (out .exit) ≡ bufferOf (now (s .entry)) (now (out .entry)) (canonicalOf (now (s .entry)))) ⌝ }
 {
     weigh(canonical::canonical(s, out))
+}
+
+fn weigh_choice(a: Choice) -> u64
+    ensures { λ r. ⌜ r ≡ choiceWeight a ⌝ }
+{
+    match a {
+        Choice::Mask(m) => m,
+        Choice::Paused(p) => p,
+        Choice::Refused(r) => refusal::number(r) as u64,
+    }
+}
+
+// The mask that is chosen, where the choice would go on, or the refusal's number.
+#[no_mangle]
+pub extern "C" fn choice_digest(s: &[u8], file: &[u8], mode: u8, budget: u64) -> u64
+    ensures { λ r. ⌜ r ≡ choiceWeight (choiceOf (now (s .entry)) (modeOf mode) (now (file .entry)) budget) ⌝ }
+{
+    weigh_choice(minimize::choice(s, Mode::of(mode), file, budget))
 }
