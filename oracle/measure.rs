@@ -1,5 +1,5 @@
-//! The benchmark of parse and of canonical text: the proved library and the given Rust on the same texts, in turn, each answer used.
-//! Lines of standard input are `valid HEX` or `damaged HEX`. Fails where the library is the slower of the two.
+//! The benchmark of parse, of canonical text and of choice: the proved library and the given Rust on the same texts, in turn, each answer used.
+//! Lines of standard input are `valid HEX` or `damaged HEX`; the choices are made here. Fails where the library is the slower of the two.
 
 use std::cell::RefCell;
 use std::hint::black_box;
@@ -7,7 +7,7 @@ use std::io::{self, BufRead};
 use std::process::ExitCode;
 use std::time::{Duration, Instant};
 
-use spdx::{Expression, ParseMode};
+use spdx::{Expression, Licensee, ParseMode};
 
 const LAX: u8 = 15;
 const ROUNDS: usize = 41;
@@ -15,6 +15,7 @@ const ROUNDS: usize = 41;
 unsafe extern "C" {
     safe fn parse_digest(text: *const u8, length: usize, mode: u8, pick: usize) -> u64;
     fn canonical_digest(text: *const u8, length: usize, buffer: *mut u8, size: usize) -> u64;
+    fn choice_digest(text: *const u8, length: usize, file: *const u8, size: usize, mode: u8, budget: u64) -> u64;
 }
 
 /// A text is handed over with a number that says which part of the answer is used.
@@ -92,6 +93,87 @@ fn compare(texts: &[Vec<u8>], proved: Function, given: Function) -> (f64, f64, f
     (ours / theirs, ours * each, theirs * each)
 }
 
+/// As many licensees as are found at most, each a listed name.
+const LICENSEES: [&str; 20] = [
+    "0BSD",
+    "Apache-2.0",
+    "BSD-2-Clause",
+    "BSD-3-Clause",
+    "BSL-1.0",
+    "CC-BY-4.0",
+    "CC0-1.0",
+    "GPL-2.0-only",
+    "GPL-2.0-or-later",
+    "GPL-3.0-only",
+    "GPL-3.0-or-later",
+    "ISC",
+    "LGPL-2.1-only",
+    "LGPL-2.1-or-later",
+    "LGPL-3.0-only",
+    "MIT",
+    "MPL-2.0",
+    "OFL-1.1",
+    "Unicode-3.0",
+    "Unlicense",
+];
+
+/// The list file of these bodies.
+fn list_file(bodies: &[&str]) -> Vec<u8> {
+    let mut file = vec![bodies.len() as u8];
+    let mut offset = 1 + 4 * bodies.len();
+    for body in bodies {
+        file.extend((offset as u16).to_le_bytes());
+        file.extend((body.len() as u16).to_le_bytes());
+        offset += body.len();
+    }
+    file.extend(bodies.concat().as_bytes());
+    file
+}
+
+fn proved_choice(text: &[u8], file: &[u8]) -> u64 {
+    // Both ranges are whole, and only read.
+    unsafe { choice_digest(text.as_ptr(), text.len(), file.as_ptr(), file.len(), 0, u64::MAX) }
+}
+
+/// From the same bytes: the text and the bodies are read here too.
+fn given_choice(text: &[u8], bodies: &[&str]) -> u64 {
+    let text = str::from_utf8(text).expect("a text of ASCII");
+    let expression = Expression::parse(text).expect("a text that reads");
+    let licensees: Vec<Licensee> = bodies.iter().map(|body| Licensee::parse(body).expect("a licensee")).collect();
+    expression.minimized_requirements(&licensees).expect("a text that is met").len() as u64
+}
+
+fn repeated(times: u32, mut call: impl FnMut() -> u64) -> Duration {
+    let start = Instant::now();
+    for _ in 0..times {
+        black_box(call());
+    }
+    start.elapsed()
+}
+
+/// Is a choice slower than the Rust's, where k licensees are found and the text is joined so? With AND all of them are needed, with OR the first.
+fn slower_choice(k: usize, joint: &str) -> bool {
+    let bodies = &LICENSEES[..k];
+    let text = bodies.join(joint).into_bytes();
+    let file = list_file(bodies);
+    let masks = if joint == " AND " { 1u32 << k } else { 1 };
+    let (rounds, times) = (if masks > 1 << 12 { 5 } else { ROUNDS }, (1 << 11) / masks + 1);
+    let mut both = (Vec::new(), Vec::new());
+    for _ in 0..rounds {
+        both.0.push(repeated(times, || proved_choice(black_box(&text), black_box(&file))));
+        both.1.push(repeated(times, || given_choice(black_box(&text), black_box(bodies))));
+    }
+    let (ours, theirs) = (median(both.0), median(both.1));
+    let each = 1e9 / f64::from(times);
+    let ratio = ours / theirs;
+    println!(
+        "choice, {k} found, joined by{joint}: {ratio:.3} of the Rust's time ({:.0} ns, {:.0} ns)",
+        ours * each,
+        theirs * each
+    );
+    ratio > 1.0
+}
+
 fn main() -> ExitCode {
     let lines: Vec<String> = io::stdin().lock().lines().map(|line| line.expect("a line")).collect();
     let mut slower = false;
@@ -108,6 +190,11 @@ fn main() -> ExitCode {
                 );
                 slower |= (from, to) == (10, 1000) && ratio > 1.0;
             }
+        }
+    }
+    for k in 1..=LICENSEES.len() {
+        for joint in [" OR ", " AND "] {
+            slower |= slower_choice(k, joint);
         }
     }
     if slower { ExitCode::FAILURE } else { ExitCode::SUCCESS }

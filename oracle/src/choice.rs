@@ -74,7 +74,7 @@ impl Problem {
         self.satisfies(self.end() - 1)
     }
 
-    fn satisfies(&self, mask: u64) -> bool {
+    pub fn satisfies(&self, mask: u64) -> bool {
         // At most 64 leaves wait at once, so the waiting results fit the bits of a number, the latest lowest.
         let mut results: u64 = 0;
         for step in &self.steps {

@@ -20,6 +20,7 @@ mod posed;
 mod protocol;
 mod random;
 mod reread;
+mod sweep;
 mod texts;
 mod worked;
 
@@ -36,6 +37,7 @@ const USAGE: &str = "usage:
   oracle reread again QUESTIONS ANSWERS        writes questions on their canonical texts
   oracle reread compare QUESTIONS ANSWERS ANSWERS
                                                shows where a canonical text reads otherwise
+  oracle sweep --seed N --count K              writes the calls of K whole runs of the listing, QUESTION => ANSWER
   oracle compare ANSWERS ANSWERS QUESTIONS     shows where two files of answers differ
   oracle worked FILE                           runs lines QUESTION => ANSWER
   oracle minimizer [--slow]                    runs the given minimizer beyond 30 found licensees
@@ -68,6 +70,7 @@ fn run(arguments: &[&str]) -> io::Result<bool> {
         ["reread", "ask", "--seed", seed, "--count", count] => reread_ask(numeric(seed)?, numeric(count)?),
         ["reread", "again", questions, answers] => reread_again(questions, answers),
         ["reread", "compare", questions, answers, second] => Ok(reread::compare(questions, answers, second)? == 0),
+        ["sweep", "--seed", seed, "--count", count] => sweep(numeric(seed)?, numeric(count)?),
         ["compare", first, second, questions] => Ok(compare::compare(first, second, questions)? == 0),
         ["worked", path] => Ok(worked::run(path)? == 0),
         ["minimizer"] => {
@@ -128,6 +131,13 @@ fn reread_ask(seed: u64, count: u64) -> io::Result<bool> {
 fn reread_again(questions: &str, answers: &str) -> io::Result<bool> {
     let mut output = BufWriter::new(io::stdout().lock());
     reread::again(questions, answers, |line| writeln!(output, "{line}"))?;
+    output.flush()?;
+    Ok(true)
+}
+
+fn sweep(seed: u64, count: u64) -> io::Result<bool> {
+    let mut output = BufWriter::new(io::stdout().lock());
+    sweep::lines(seed, count, |line| writeln!(output, "{line}"))?;
     output.flush()?;
     Ok(true)
 }

@@ -17,10 +17,10 @@ const MOST_MASKS: u64 = 1 << 16;
 const LETTERS: &[u8; 64] = b"0123456789ABCDEFGHIJKLMNOPQRSTUVWXYZabcdefghijklmnopqrstuvwxyz-.";
 
 /// A text, its mode and a list.
-struct Case {
-    flags: u8,
-    text: Text,
-    file: File,
+pub struct Case {
+    pub flags: u8,
+    pub text: Text,
+    pub file: File,
 }
 
 impl Case {
@@ -158,7 +158,7 @@ const OFFERS: [(&str, &str); 14] = [
     ("DocumentRef-d:LicenseRef-a", "DocumentRef-d:LicenseRef-a"),
 ];
 
-fn random_case(random: &mut Random) -> Case {
+pub fn random_case(random: &mut Random) -> Case {
     let flags = if random.one_in(8) { random_flags(random) } else { LARGEST_MODE };
     let known = 1 + random.below(OFFERS.len());
     let leaf = move |random: &mut Random, _: u8, text: &mut String| text.push_str(OFFERS[random.below(known)].0);
