@@ -1,6 +1,6 @@
 -- The nodes so far: how many there are, how many of them are leaves, and the array that holds them, filled from the front. The proofs'
 -- machinery, nothing to believe.
-use Prim.Native.Nat.{ℕ, suc, _+_, _-_, _≤_, _<_}
+use Prim.Native.Nat.{ℕ, zero, suc, _+_, _-_, _≤_, _<_}
 use mathlib.Core.Path.{_≡_, refl, sym, ap, _∙_}
 use mathlib.Core.List.{List, [], _∷_, _++_, append-assoc}
 use native.Mathlib.Omega.{arith}
@@ -57,3 +57,9 @@ pad-again q n x y e =
     ∙ set-append-seam q x rest y
     ∙ sym (append-assoc q (y ∷ []) rest)
     ∙ ap (λ (i : ℕ). (q ++ (y ∷ [])) ++ replicate (127 - i) blank) (length-one q x ∙ sym (length-one q y))
+
+-- a blank that is stored among blanks
+pub blank-again : (n i : ℕ) → set (replicate n blank) i blank ≡ replicate n blank
+blank-again zero i = refl
+blank-again (suc n) zero = refl
+blank-again (suc n) (suc i) = ap (λ (l : List Node). blank ∷ l) (blank-again n i)

@@ -662,7 +662,10 @@ fn refuse(x: Refusal) -> Parsed
     ensures { λ r. ⌜ r ≡ answerOf (refused x) ⌝ }
 {
     let b = Node { kind: Kind::Blank };
-    let nodes = [b; 127];
+    let mut nodes = [b; 127];
+    // a store at a place that only the run knows keeps the compiler from taking the array apart, and a parse that reads from copying it so
+    let i = refusal::number(x) as usize % 127;
+    nodes[i] = b;
     Parsed {
         outcome: Outcome::Refused(x),
         count: 0,
