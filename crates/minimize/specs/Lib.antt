@@ -1,4 +1,5 @@
 pub mod ArrayLaws
+pub mod AskLaws
 pub mod ListLaws
 pub mod Minimize
 pub mod Posed

@@ -8,12 +8,21 @@ use lib.ListN.{length, getD, take}
 use Rattle.grammar.specs.declared.Kind.{Kind}
 use Rattle.grammar.specs.declared.Kind.the-variants as K
 use Rattle.grammar.specs.declared.Node.{Node}
+use Rattle.grammar.specs.declared.Leaf.{Leaf}
+use Rattle.grammar.specs.declared.Outcome.{Outcome}
 use Rattle.grammar.specs.declared.Outcome.the-variants as O
+use Rattle.grammar.specs.Tree.{Tree, size, postfix}
+use Rattle.grammar.specs.Grammar.{Result, got}
+use Rattle.grammar.specs.Grammar as Grammar
+use Rattle.licensee.specs.Offers.{listOf}
 use Rattle.licensee.specs.declared.Terms.{Terms}
 use Rattle.licensee.specs.Terms.{termsOf, SmallLicence, SmallAddition, sameTerms, meets}
 use Rattle.masks.specs.Value.{digit, value}
+use Rattle.minimize.specs.declared.Asked.{Asked}
+use Rattle.minimize.specs.declared.Asked.the-variants as A
 use Rattle.minimize.specs.declared.Posed.{Posed}
-use Rattle.minimize.specs.Minimize.{someOf, foundAfter, Problem, refused, posed}
+use Rattle.minimize.specs.declared.Posed.the-variants as Q
+use Rattle.minimize.specs.Minimize.{someOf, foundAfter, Problem, refused, posed, ofList}
 
 abbrev pub terms : ℕ → ℕ → ℕ → Terms
 terms k l a = record { kinds = k; licence = l; addition = a }
@@ -60,9 +69,29 @@ module _ (f s : List ℕ) where
   unfoldable pub maskOf : List Terms → Terms → ℕ
   maskOf fs x = bits (λ (l : Terms). meets f s l x) fs
 
+-- what a parse comes to
+abbrev pub askedOf : Outcome → ℕ → Asked
+askedOf O.Read n = A.Nodes n
+askedOf (O.Refused r) n = A.Refused r
+
+-- three arrays of 127 numbers
+abbrev pub Roomy : List ℕ → List ℕ → List ℕ → Type 0
+Roomy k l a = (length k ≡ 127) × (length l ≡ 127) × (length a ≡ 127)
+
+-- what `ask` makes of a text: the numbers of its nodes
+abbrev pub Asks : Asked → Result → List ℕ → List ℕ → List ℕ → Type 0
+Asks r (got q b ts) k l a =
+    (r ≡ A.Nodes (length q)) × (length q ≤ 127) × (triples k l a (length q) ≡ map nodeTerms q) × SmallNodes q × Roomy k l a
+Asks r (Grammar.refused x) k l a = r ≡ A.Refused x
+
 -- what the code makes of a problem: the codes of n nodes and their masks, by which the evaluator answers which sets satisfy
-abbrev pub Poses : Posed → Problem → Type 0
-Poses p (refused r) = p .outcome ≡ O.Refused r
-Poses p (posed k sat) =
-    (p .outcome ≡ O.Read) × (p .found ≡ k) × (k ≤ 30) × (p .count ≤ 127) × (length (p .codes) ≡ 127) × (length (p .met) ≡ 127)
-    × ((m : ℕ) → value (take (p .count) (p .codes)) (take (p .count) (p .met)) m ≡ sat m)
+abbrev pub Poses : Posed → Problem → List ℕ → List ℕ → Type 0
+Poses p (refused r) c t = p ≡ Q.Refused r
+Poses p (posed k sat) c t =
+    (n : ℕ) × (p ≡ Q.Is k n) × (k ≤ 30) × (n ≤ 127) × (length c ≡ 127) × (length t ≡ 127)
+    × ((m : ℕ) → value (take n c) (take n t) m ≡ sat m)
+
+-- the same of any tree whose nodes the numbers are
+abbrev pub PosesAny : Posed → List ℕ → List ℕ → List ℕ → List ℕ → List ℕ → ℕ → List ℕ → Type 0
+PosesAny p f s k l a n t =
+    (u : Tree Leaf) → triples k l a n ≡ map nodeTerms (postfix u) → SmallNodes (postfix u) → size u ≤ 64 → Poses p (ofList f s u (listOf f)) k t

@@ -17,7 +17,7 @@ use Rattle.grammar.specs.declared.Kind.{Kind}
 use Rattle.grammar.specs.declared.Kind.the-variants as K
 use Rattle.grammar.specs.declared.Node.{Node}
 use Rattle.grammar.specs.declared.Outcome.the-variants as O
-use Rattle.grammar.specs.Tree.{Tree, just, both, either, nodeOf, postfix, size, IsTree}
+use Rattle.grammar.specs.Tree.{Tree, just, both, either, nodeOf, postfix, size}
 use Rattle.grammar.specs.TreeLaws.{run-postfix, rebuilt, some-leaf}
 use Rattle.licensee.specs.declared.Accepted.{Accepted}
 use Rattle.licensee.specs.declared.Licensee.{Licensee}
@@ -28,11 +28,9 @@ use Rattle.licensee.specs.Terms.{offeredTerms, SmallLicensee, SmallAll, SmallLi
 use Rattle.licensee.specs.FileLaws.{list-count}
 use Rattle.licensee.specs.TermsLaws.{meets-is, meets-no, equals-is, kinds-small}
 use Rattle.masks.specs.Value.{shares, digit, push, step, run, value}
-use Rattle.minimize.specs.declared.Asked.{Asked}
-use Rattle.minimize.specs.declared.Finds.{Finds}
-use Rattle.minimize.specs.declared.Posed.{Posed}
-use Rattle.minimize.specs.Minimize.{someOf, member, onTop, treeOf, wanted, foundOf, satisfied, refused, limited, ofList, ofTree}
-use Rattle.minimize.specs.Posed.{kindTerms, nodeTerms, SmallNodes, triples, foundTerms, maskOf, Poses}
+use Rattle.minimize.specs.declared.Posed.the-variants as Q
+use Rattle.minimize.specs.Minimize.{someOf, member, onTop, treeOf, wanted, foundOf, satisfied, limited, ofList}
+use Rattle.minimize.specs.Posed.{kindTerms, nodeTerms, SmallNodes, triples, foundTerms, maskOf, PosesAny}
 use Rattle.minimize.specs.ListLaws.{Each, each-imp, some-append, found-each, found-map, digit-lt, bits-map, bits-same, shares-member}
 use Rattle.minimize.specs.TripleLaws.{triples-length, triples-kinds, triples-padded}
 
@@ -223,78 +221,70 @@ accepted-room f a e = subst Room (sym e) (go (listOf f) refl)
         (n, whole (kindsOf ls) (omega arith), whole (licencesOf ls) (omega arith), whole (additionsOf ls) (omega arith))
     go (wrong r) q = (omega arith, refl, refl, refl)
 
--- a tree's nodes q and a valid list a: x are the nodes' numbers, n of them, and y the numbers of the found
+-- a valid list a, the numbers of n nodes (xk, xl, xa) and those of the k found (yk, yl, ya)
 module _
-    (f s : List ℕ) (q : List Node) (a : Accepted) (x : Asked) (y : Finds) (n : ℕ)
-    (tree : IsTree q) (list : a ≡ acceptedOf (listOf f)) (valid : a .outcome ≡ O.Read) (small : SmallList (listOf f))
-    (asked : triples (x .kinds) (x .licences) (x .additions) n ≡ map nodeTerms q) (places : SmallNodes q)
-    (finds : triples (y .kinds) (y .licences) (y .additions) (y .count)
-    ≡ foundTerms f s (triples (x .kinds) (x .licences) (x .additions) n) (triples (a .kinds) (a .licences) (a .additions) (a .count)))
+    (f s : List ℕ) (a : Accepted) (xk xl xa : List ℕ) (n : ℕ) (yk yl ya : List ℕ) (k : ℕ)
+    (list : a ≡ acceptedOf (listOf f)) (valid : a .outcome ≡ O.Read) (small : SmallList (listOf f))
+    (finds : triples yk yl ya k ≡ foundTerms f s (triples xk xl xa n) (triples (a .kinds) (a .licences) (a .additions) (a .count)))
   where
-    asked-tree : triples (x .kinds) (x .licences) (x .additions) n ≡ map nodeTerms (postfix (tree .tree))
-    asked-tree = asked ∙ ap (map nodeTerms) (tree .nodes)
+    -- where the nodes are a tree's
+    module _ (t : Tree Leaf) (asked : triples xk xl xa n ≡ map nodeTerms (postfix t)) (places : SmallNodes (postfix t)) where
+      record Gathered : Type 0 where
+        found : List Licensee
+        problem : ofList f s t (listOf f) ≡ limited f s t found
+        below : SmallAll found
+        numbers : triples yk yl ya k ≡ map offeredTerms found
+        many : k ≡ length found
 
-    record Gathered : Type 0 where
-      found : List Licensee
-      problem : ofTree f s (treeOf q) ≡ limited f s (tree .tree) found
-      below : SmallAll found
-      numbers : triples (y .kinds) (y .licences) (y .additions) (y .count) ≡ map offeredTerms found
-      many : y .count ≡ length found
+      gathered : Gathered
+      gathered =
+          let w = accepted-is (listOf f) a list valid small in
+          let ls = w .0 in
+          let numbers = finds
+          ∙ ap (λ (l : List Terms). foundTerms f s l (triples (a .kinds) (a .licences) (a .additions) (a .count))) asked
+          ∙ ap (foundTerms f s (map nodeTerms (postfix t))) (w .3) ∙ found-is f s t ls places (w .2) in
+          record {
+            found = foundOf f s t ls;
+            problem = ap (ofList f s t) (w .1);
+            below = found-small f s t ls (w .2);
+            numbers = numbers;
+            many = sym (triples-length yk yl ya k) ∙ ap length numbers ∙ length-map (foundOf f s t ls) offeredTerms;
+          }
 
-    gathered : Gathered
-    gathered =
-        let t = tree .tree in
-        let e = tree .nodes in
-        let w = accepted-is (listOf f) a list valid small in
-        let ls = w .0 in
-        let numbers = finds
-        ∙ ap (λ (l : List Terms). foundTerms f s l (triples (a .kinds) (a .licences) (a .additions) (a .count))) asked-tree
-        ∙ ap (foundTerms f s (map nodeTerms (postfix t))) (w .3) ∙ found-is f s t ls (subst SmallNodes e places) (w .2) in
-        record {
-          found = foundOf f s t ls;
-          problem = ap (ofTree f s) (ap treeOf e ∙ tree-of t) ∙ ap (ofList f s t) (w .1);
-          below = found-small f s t ls (w .2);
-          numbers = numbers;
-          many = sym (triples-length (y .kinds) (y .licences) (y .additions) (y .count)) ∙ ap length numbers ∙ length-map (foundOf f s t ls) offeredTerms;
-        }
+      codes-are : n ≤ length xk → take n xk ≡ map (λ (z : Node). nodeTerms z .kinds) (postfix t)
+      codes-are h =
+          triples-kinds xk xl xa n h ∙ ap (map (λ (z : Terms). z .kinds)) asked ∙ map-map (λ (z : Terms). z .kinds) nodeTerms (postfix t)
 
-    codes-are : n ≤ length (x .kinds) → take n (x .kinds) ≡ map (λ (z : Node). nodeTerms z .kinds) (postfix (tree .tree))
-    codes-are h =
-        triples-kinds (x .kinds) (x .licences) (x .additions) n h ∙ ap (map (λ (z : Terms). z .kinds)) asked-tree
-        ∙ map-map (λ (z : Terms). z .kinds) nodeTerms (postfix (tree .tree))
-
-    masks-are : map (maskOf f s (triples (y .kinds) (y .licences) (y .additions) (y .count))) (triples (x .kinds) (x .licences) (x .additions) n)
-        ≡ map (λ (z : Node). maskOf f s (map offeredTerms (gathered .found)) (nodeTerms z)) (postfix (tree .tree))
-    masks-are =
-        ap (λ (l : List Terms). map (maskOf f s l) (triples (x .kinds) (x .licences) (x .additions) n)) (gathered .numbers)
-        ∙ ap (map (maskOf f s (map offeredTerms (gathered .found)))) asked-tree
-        ∙ map-map (maskOf f s (map offeredTerms (gathered .found))) nodeTerms (postfix (tree .tree))
+      masks-are : map (maskOf f s (triples yk yl ya k)) (triples xk xl xa n)
+          ≡ map (λ (z : Node). maskOf f s (map offeredTerms (gathered .found)) (nodeTerms z)) (postfix t)
+      masks-are =
+          ap (λ (l : List Terms). map (maskOf f s l) (triples xk xl xa n)) (gathered .numbers)
+          ∙ ap (map (maskOf f s (map offeredTerms (gathered .found)))) asked
+          ∙ map-map (maskOf f s (map offeredTerms (gathered .found))) nodeTerms (postfix t)
 
     -- more than 30 are found: 18
-    pub pose-many : (r : Posed) → 30 < y .count → Poses r (refused (TooManyRequirements (y .count))) → Poses r (ofTree f s (treeOf q))
+    pub pose-many : (met : List ℕ) → 30 < k → PosesAny (Q.Refused (TooManyRequirements k)) f s xk xl xa n met
     unfolding limited
-    pose-many r h p =
-        let g = gathered in
+    pose-many met h t asked places room =
+        let g = gathered t asked places in
         let over : 30 < length (g .found) = omega (arith, g .many) in
-        rw (g .problem, lt-ltb 30 (length (g .found)) over, ← g .many) p
+        rw (g .problem, lt-ltb 30 (length (g .found)) over, ← g .many) refl
 
     -- 30 or fewer: the evaluator answers which sets of them satisfy
-    pub pose-some : (r : Posed) → y .count ≤ 30 → n ≤ 127 → length (x .kinds) ≡ 127
-        → r .outcome ≡ O.Read → r .found ≡ y .count → r .count ≡ n → r .codes ≡ x .kinds
-        → take n (r .met) ≡ map (maskOf f s (triples (y .kinds) (y .licences) (y .additions) (y .count))) (triples (x .kinds) (x .licences) (x .additions) n)
-        → length (r .met) ≡ 127 → Poses r (ofTree f s (treeOf q))
+    pub pose-some : (met : List ℕ) → k ≤ 30 → n ≤ 127 → length xk ≡ 127 → length met ≡ 127
+        → take n met ≡ map (maskOf f s (triples yk yl ya k)) (triples xk xl xa n) → PosesAny (Q.Is k n) f s xk xl xa n met
     unfolding limited
-    pose-some r h b c e d i j k l =
-        let g = gathered in
+    pose-some met h b c l e t asked places room =
+        let g = gathered t asked places in
         let few : length (g .found) ≤ 30 = omega (arith, g .many) in
-        let codes = ap (λ (p : ℕ). take p (r .codes)) i ∙ ap (take n) j ∙ codes-are (omega arith) in
-        let masks = ap (λ (p : ℕ). take p (r .met)) i ∙ k ∙ masks-are in
+        let codes = codes-are t asked places (omega arith) in
+        let masks = e ∙ masks-are t asked places in
         rw (g .problem, le-ltb 30 (length (g .found)) few) (
-          e,
-          d ∙ g .many,
+          n,
+          ap (λ (i : ℕ). Q.Is i n) (g .many),
           few,
-          omega arith,
-          ap length j ∙ c,
+          b,
+          c,
           l,
-          λ m. rw (codes, masks) (value-is f s (tree .tree) (g .found) (subst SmallNodes (tree .nodes) places) (g .below) (tree .few) m),
+          λ m. rw (codes, masks) (value-is f s t (g .found) places (g .below) room m),
         )

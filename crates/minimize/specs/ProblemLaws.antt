@@ -2,21 +2,18 @@
 use Prim.Native.Nat.{ℕ, _≤_}
 use mathlib.Core.Path.{_≡_, refl, sym, ap, _∙_, subst, fun-ext}
 use mathlib.Core.Bool.{Bool, true, false}
-use mathlib.Core.List.{List}
+use mathlib.Core.List.{List, map}
 use mathlib.Core.Option.{Option, none, some}
 use native.Mathlib.Omega.{arith}
 use lib.Dec.{ltb}
-use lib.ListN.{length, take, length-append, length-replicate}
-use lib.Seq.{take-at, length-take-le}
+use lib.ListN.{length, take}
+use lib.Seq.{length-take-le}
 use Rattle.refusal.specs.declared.Refusal.{Refusal}
 use Rattle.mode.specs.declared.Mode.{Mode}
 use Rattle.grammar.specs.declared.Leaf.{Leaf}
-use Rattle.grammar.specs.declared.Node.{Node}
 use Rattle.grammar.specs.declared.Outcome.the-variants as O
-use Rattle.grammar.specs.declared.Parsed.{Parsed}
-use Rattle.grammar.specs.Tree.{Tree, IsTree}
-use Rattle.grammar.specs.TreeLaws.{tree-length}
-use Rattle.grammar.specs.Grammar.{Result, got, parseOf, answerOf, padded}
+use Rattle.grammar.specs.Tree.{Tree, postfix}
+use Rattle.grammar.specs.Grammar.{Result, got, parseOf}
 use Rattle.grammar.specs.Grammar as Grammar
 use Rattle.grammar.specs.Shape.{reads-tree}
 use Rattle.licensee.specs.declared.Accepted.{Accepted}
@@ -24,54 +21,56 @@ use Rattle.licensee.specs.declared.Licensee.{Licensee}
 use Rattle.licensee.specs.Offers.{Accepts, good, wrong, listOf}
 use Rattle.licensee.specs.Terms.{acceptedOf}
 use Rattle.masks.specs.Value.{value}
+use Rattle.minimize.specs.declared.Asked.{Asked}
+use Rattle.minimize.specs.declared.Asked.the-variants as A
 use Rattle.minimize.specs.declared.Posed.{Posed}
+use Rattle.minimize.specs.declared.Posed.the-variants as Q
 use Rattle.minimize.specs.Minimize.{treeOf, foundOf, Problem, refused, posed, limited, ofList, ofTree, ofText, problemOf}
-use Rattle.minimize.specs.Posed.{Poses}
+use Rattle.minimize.specs.Posed.{nodeTerms, triples, SmallNodes, Roomy, Asks, Poses, PosesAny}
 use Rattle.minimize.specs.PosedLaws.{tree-of}
 use Rattle.minimize.specs.Satisfaction.{satisfied-none}
 
--- a text that reads and a list that is refused: 17
-pub problem-unlisted : (f s : List ℕ) (q : List Node) (a : Accepted) (r : Refusal) → IsTree q → a ≡ acceptedOf (listOf f) → a .outcome ≡ O.Refused r
-    → ofTree f s (treeOf q) ≡ refused r
-problem-unlisted f s q a r t e o =
-    ap (ofTree f s) (ap treeOf (t .nodes) ∙ tree-of (t .tree)) ∙ go (listOf f) e
+-- a list that is refused, whatever the tree: 17
+pub poses-unlisted : (f s : List ℕ) (a : Accepted) (r : Refusal) → a ≡ acceptedOf (listOf f) → a .outcome ≡ O.Refused r
+    → (k l d : List ℕ) (n : ℕ) (t : List ℕ) → PosesAny (Q.Refused r) f s k l d n t
+poses-unlisted f s a r e o k l d n t u asked places room = rw (go (listOf f) e) refl
   where
-    go : (w : Accepts) → a ≡ acceptedOf w → ofList f s (t .tree) w ≡ refused r
+    go : (w : Accepts) → a ≡ acceptedOf w → ofList f s u w ≡ refused r
     go (good ls) e = absurd (let z : _≡_ {A = ℕ} 0 1 = cc in omega arith)
     go (wrong x) e = cc
 
--- the answer for a text: refused, or a tree's nodes
-module _ (s : List ℕ) (m : Mode) (f : List ℕ) (a : Parsed) (e : a ≡ answerOf (parseOf s m)) where
-  pub problem-unread : (r : Refusal) → a .outcome ≡ O.Refused r → problemOf s m f ≡ refused r
+-- what stands in the arrays where a text reads: n of them are the numbers of a tree's nodes
+pub record Reads (s : List ℕ) (m : Mode) (f k l d : List ℕ) (n : ℕ) : Type 0 where
+  pub few : n ≤ 127
+  pub room : Roomy k l d
+  pub problem : (p : Posed) (t : List ℕ) → PosesAny p f s k l d n t → Poses p (problemOf s m f) k t
+
+-- the answer for a text: refused, or so many nodes
+module _ (s : List ℕ) (m : Mode) (f k l d : List ℕ) (a : Asked) (asks : Asks a (parseOf s m) k l d) where
+  pub problem-unread : (r : Refusal) → a ≡ A.Refused r → problemOf s m f ≡ refused r
   unfolding problemOf
-  problem-unread r o = go (parseOf s m) e
+  problem-unread r o = go (parseOf s m) asks
     where
-      go : (w : Result) → a ≡ answerOf w → ofText f s w ≡ refused r
-      go (got q b ts) e = absurd (let z : _≡_ {A = ℕ} 0 1 = cc in omega arith)
+      go : (w : Result) → Asks a w k l d → ofText f s w ≡ refused r
+      go (got q b ts) e = absurd (let z : _≡_ {A = ℕ} 0 1 = cc (e .0) in omega arith)
       go (Grammar.refused x) e = cc
 
-  pub record Reads : Type 0 where
-    pub few : a .count ≤ 127
-    pub room : length (a .nodes) ≡ 127
-    pub tree : IsTree (take (a .count) (a .nodes))
-    pub problem : problemOf s m f ≡ ofTree f s (treeOf (take (a .count) (a .nodes)))
-
-  pub problem-read : a .outcome ≡ O.Read → Reads
+  pub problem-read : (n : ℕ) → a ≡ A.Nodes n → Reads s m f k l d n
   unfolding problemOf
-  problem-read o = go (parseOf s m) refl e
+  problem-read n o = go (parseOf s m) refl asks
     where
-      go : (w : Result) → parseOf s m ≡ w → a ≡ answerOf w → Reads
+      go : (w : Result) → parseOf s m ≡ w → Asks a w k l d → Reads s m f k l d n
       go (got q b ts) p e =
           let t = reads-tree s m q b ts p in
-          let n = tree-length q t .1 in
-          let k : a .count ≡ length q = ap (λ (x : Parsed). x .count) e in
-          let l : a .nodes ≡ padded q = ap (λ (x : Parsed). x .nodes) e in
-          let c : take (a .count) (a .nodes) ≡ q = rw (k, l) (take-at q _ (length q) refl) in
+          let i : length q ≡ n = cc (e .0) in
+          let numbers : triples k l d n ≡ map nodeTerms (postfix (t .tree)) =
+          ap (triples k l d) (sym i) ∙ e .2 ∙ ap (map nodeTerms) (t .nodes) in
+          let x : problemOf s m f ≡ ofList f s (t .tree) (listOf f) =
+          ap (ofText f s) p ∙ ap (ofTree f s) (ap treeOf (t .nodes) ∙ tree-of (t .tree)) in
           record {
             few = omega arith;
-            room = rw l (simp (length-append, length-replicate) (omega arith));
-            tree = subst IsTree (sym c) t;
-            problem = ap (ofText f s) p ∙ ap (λ (z : List Node). ofTree f s (treeOf z)) (sym c);
+            room = e .4;
+            problem = λ r u h. subst (λ (y : Problem). Poses r y k u) (sym x) (h (t .tree) numbers (subst SmallNodes (t .nodes) (e .3)) (t .few));
           }
       go (Grammar.refused r) p e = absurd (let z : _≡_ {A = ℕ} 0 1 = cc in omega arith)
 
@@ -101,33 +100,35 @@ empty-fails s m f = by-text (parseOf s m)
     by-text (Grammar.refused r) = tt
 
 -- what is posed, read back: refused, or the sets that the evaluator finds to satisfy
-pub posed-refused : (p : Posed) (x : Problem) (r : Refusal) → Poses p x → p .outcome ≡ O.Refused r → x ≡ refused r
-posed-refused p (refused q) r h o = cc
-posed-refused p (posed k sat) r h o = absurd (let z : _≡_ {A = ℕ} 0 1 = cc in omega arith)
+pub record Stands (c t : List ℕ) (k n : ℕ) (x : Problem) : Type 0 where
+  pub few : k ≤ 30
+  pub codes : n ≤ length c
+  pub masks : n ≤ length t
+  pub level : length (take n c) ≤ length (take n t)
+  pub problem : x ≡ posed k (value (take n c) (take n t))
 
-abbrev pub evaluates : Posed → ℕ → Bool
-evaluates p m = value (take (p .count) (p .codes)) (take (p .count) (p .met)) m
+module _ (p : Posed) (c t : List ℕ) where
+  pub posed-refused : (x : Problem) (r : Refusal) → Poses p x c t → p ≡ Q.Refused r → x ≡ refused r
+  posed-refused (refused q) r h o = cc
+  posed-refused (posed k sat) r h o = absurd (let z : _≡_ {A = ℕ} 0 1 = cc (h .1) in omega arith)
 
-pub record Stands (p : Posed) (x : Problem) : Type 0 where
-  pub few : p .found ≤ 30
-  pub codes : p .count ≤ length (p .codes)
-  pub masks : p .count ≤ length (p .met)
-  pub level : length (take (p .count) (p .codes)) ≤ length (take (p .count) (p .met))
-  pub problem : x ≡ posed (p .found) (evaluates p)
-
-pub posed-read : (p : Posed) (x : Problem) → Poses p x → p .outcome ≡ O.Read → Stands p x
-posed-read p (refused q) h o = absurd (let z : _≡_ {A = ℕ} 0 1 = cc in omega arith)
-posed-read p (posed k sat) h o =
-    let e : evaluates p ≡ sat = fun-ext (h .6) in
-    let n = p .count in
-    record {
-      few = omega arith;
-      codes = omega arith;
-      masks = omega arith;
-      level = omega (arith, length-take-le n (p .codes) (omega arith), length-take-le n (p .met) (omega arith));
-      problem = cc (e, h .1);
-    }
+  pub posed-read : (x : Problem) (k n : ℕ) → Poses p x c t → p ≡ Q.Is k n → Stands c t k n x
+  posed-read (refused q) k n h o = absurd (let z : _≡_ {A = ℕ} 0 1 = cc in omega arith)
+  posed-read (posed j sat) k n h o =
+      let i : h .0 ≡ n = cc (h .1) in
+      let g : j ≡ k = cc (h .1) in
+      let e : value (take (h .0) c) (take (h .0) t) ≡ sat = fun-ext (h .6) in
+      let codes : n ≤ length c = omega arith in
+      let masks : n ≤ length t = omega arith in
+      record {
+        few = omega arith;
+        codes = codes;
+        masks = masks;
+        level = omega (arith, length-take-le n c codes, length-take-le n t masks);
+        problem = cc (e, g, i);
+      }
 
 -- and the empty set is none of them
-pub posed-empty : (p : Posed) (s : List ℕ) (m : Mode) (f : List ℕ) → Stands p (problemOf s m f) → evaluates p 0 ≡ false
-posed-empty p s m f w = subst EmptyFails (w .problem) (empty-fails s m f)
+pub posed-empty : (c t : List ℕ) (k n : ℕ) (s : List ℕ) (m : Mode) (f : List ℕ) → Stands c t k n (problemOf s m f)
+    → value (take n c) (take n t) 0 ≡ false
+posed-empty c t k n s m f w = subst EmptyFails (w .problem) (empty-fails s m f)

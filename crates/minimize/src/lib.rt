@@ -2,16 +2,15 @@
 // nodes.
 ghost use mathlib.Core.Path.{_≡_};
 ghost use mathlib.Core.List.{map};
-ghost use Prim.Native.Nat.{_+_, _^_, _<_, _≤_};
+ghost use Prim.Native.Nat.{_<_, _≤_};
 ghost use lib.ListN.{length, take};
-ghost use Rattle.grammar.specs.Tree.{IsTree};
+ghost use Rattle.grammar.specs.Grammar.{parseOf};
 ghost use Rattle.grammar.specs.declared.Outcome.the-variants.{Read};
 ghost use Rattle.licensee.specs.Offers.{listOf};
 ghost use Rattle.licensee.specs.Terms.{sameTerms, meets, acceptedOf, SmallList};
-ghost use Rattle.minimize.specs.Minimize.{someOf, refused, treeOf, ofTree, problemOf, choiceOf, listingOf};
-ghost use Rattle.minimize.specs.Posed.{kindTerms, nodeTerms, SmallKind, SmallNodes, triples, foundTerms, maskOf, Poses};
+ghost use Rattle.minimize.specs.Minimize.{someOf, problemOf, choiceOf, listingOf};
+ghost use Rattle.minimize.specs.Posed.{kindTerms, SmallKind, triples, foundTerms, maskOf, askedOf, Asks, Poses, PosesAny};
 use grammar::Kind;
-use grammar::Node;
 use grammar::Outcome;
 use grammar::Parsed;
 use licensee::Accepted;
@@ -21,28 +20,16 @@ pub use masks::Listing;
 use mode::Mode;
 use refusal::Refusal;
 
-// The nodes of a text as numbers.
-pub struct Asked {
-    pub kinds: [u8; 127],
-    pub licences: [u64; 127],
-    pub additions: [u64; 127],
+// What becomes of a text: how many nodes it has, whose numbers are written, or why it has none.
+pub enum Asked {
+    Nodes(usize),
+    Refused(Refusal),
 }
 
-// The found licensees as numbers.
-pub struct Finds {
-    pub count: usize,
-    pub kinds: [u8; 64],
-    pub licences: [u64; 64],
-    pub additions: [u64; 64],
-}
-
-// What choice and listing are about: the codes of the nodes, the mask of the found licensees that satisfy each, and how many there are of both.
-pub struct Posed {
-    pub outcome: Outcome,
-    pub found: u32,
-    pub count: usize,
-    pub codes: [u8; 127],
-    pub met: [u64; 127],
+// What choice and listing are about: how many licensees are found and how many nodes there are; or why there is nothing to look for.
+pub enum Posed {
+    Is { found: u32, count: usize },
+    Refused(Refusal),
 }
 
 // The numbers of a node: an operator's code is no leaf's.
@@ -73,21 +60,32 @@ fn terms_in(k: Kind) -> Terms
     }
 }
 
-// The nodes of a text that reads, as numbers.
-fn ask(p: Parsed) -> Asked
-    requires { ⌜ (p .count ≤ 127) × (length (p .nodes) ≡ 127) ⌝ }
-    ensures { λ r. ⌜ (triples (r .kinds) (r .licences) (r .additions) (p .count) ≡ map nodeTerms (take (p .count) (p .nodes)))
-        × SmallNodes (take (p .count) (p .nodes))
-        × (length (r .kinds) ≡ 127) × (length (r .licences) ≡ 127) × (length (r .additions) ≡ 127) ⌝ }
+// What a parse comes to, whose nodes are written.
+fn told(o: Outcome, n: usize) -> Asked
+    ensures { λ r. ⌜ r ≡ askedOf o n ⌝ }
 {
-    let nodes = p.nodes;
+    match o {
+        Outcome::Read => Asked::Nodes(n),
+        Outcome::Refused(r) => Asked::Refused(r),
+    }
+}
+
+// The text, its nodes as numbers. A text that is refused has none.
+fn ask(
+    s: &[u8],
+    m: Mode,
+    kinds: &mut [u8; 127],
+    licences: &mut [u64; 127],
+    additions: &mut [u64; 127],
+) -> Asked
+    requires { ⌜ (length (now kinds) ≡ 127) × (length (now licences) ≡ 127) × (length (now additions) ≡ 127) ⌝ }
+    ensures { λ r. ⌜ Asks r (parseOf (now (s .entry)) m) (now (kinds .exit)) (now (licences .exit)) (now (additions .exit)) ⌝ }
+{
+    let p = parser::parse(s, m);
     let count = p.count;
-    let mut kinds = [0u8; 127];
-    let mut licences = [0u64; 127];
-    let mut additions = [0u64; 127];
     let mut i = 0;
     while i < count {
-        let node = nodes[i];
+        let node = p.nodes[i];
         let kind = node.kind;
         let x = terms_in(kind);
         kinds[i] = x.kinds;
@@ -95,11 +93,8 @@ fn ask(p: Parsed) -> Asked
         additions[i] = x.addition;
         i += 1;
     }
-    Asked {
-        kinds,
-        licences,
-        additions,
-    }
+    let outcome = p.outcome;
+    told(outcome, count)
 }
 
 // Does the licensee l satisfy one of n leaves?
@@ -151,34 +146,38 @@ fn is_known(f: &[u8], l: Terms, kinds: &[u8], licences: &[u64], additions: &[u64
 }
 
 // The found licensees: in list order those that satisfy some leaf and equal no earlier found one.
-fn find(f: &[u8], s: &[u8], a: Accepted, x: Asked, n: usize) -> Finds
+fn find(
+    f: &[u8],
+    s: &[u8],
+    a: Accepted,
+    xk: &[u8],
+    xl: &[u64],
+    xa: &[u64],
+    n: usize,
+    kinds: &mut [u8; 64],
+    licences: &mut [u64; 64],
+    additions: &mut [u64; 64],
+) -> usize
     requires { ⌜ (a .count ≤ 64) × (length (a .kinds) ≡ 64) × (length (a .licences) ≡ 64) × (length (a .additions) ≡ 64)
-        × (n ≤ 127) × (length (x .kinds) ≡ 127) × (length (x .licences) ≡ 127) × (length (x .additions) ≡ 127) ⌝ }
-    ensures { λ r. ⌜ (triples (r .kinds) (r .licences) (r .additions) (r .count)
-        ≡ foundTerms (now (f .entry)) (now (s .entry)) (triples (x .kinds) (x .licences) (x .additions) n) (triples (a .kinds) (a .licences) (a .additions) (a .count)))
-        × (r .count ≤ 64) × (length (r .kinds) ≡ 64) × (length (r .licences) ≡ 64) × (length (r .additions) ≡ 64) ⌝ }
+        × (n ≤ length (now xk)) × (n ≤ length (now xl)) × (n ≤ length (now xa))
+        × (length (now kinds) ≡ 64) × (length (now licences) ≡ 64) × (length (now additions) ≡ 64) ⌝ }
+    ensures { λ r. ⌜ (triples (now (kinds .exit)) (now (licences .exit)) (now (additions .exit)) r
+        ≡ foundTerms (now (f .entry)) (now (s .entry)) (triples (now (xk .entry)) (now (xl .entry)) (now (xa .entry)) n)
+        (triples (a .kinds) (a .licences) (a .additions) (a .count)))
+        × (r ≤ 64) × (length (now (kinds .exit)) ≡ 64) × (length (now (licences .exit)) ≡ 64) × (length (now (additions .exit)) ≡ 64) ⌝ }
 {
     let count = a.count;
-    let listed_kinds = a.kinds;
-    let listed_licences = a.licences;
-    let listed_additions = a.additions;
-    let asked_kinds = x.kinds;
-    let asked_licences = x.licences;
-    let asked_additions = x.additions;
-    let mut kinds = [0u8; 64];
-    let mut licences = [0u64; 64];
-    let mut additions = [0u64; 64];
     let mut k = 0;
     let mut i = 0;
     while i < count {
         let l = Terms {
-            kinds: listed_kinds[i],
-            licence: listed_licences[i],
-            addition: listed_additions[i],
+            kinds: a.kinds[i],
+            licence: a.licences[i],
+            addition: a.additions[i],
         };
         i += 1;
-        if is_wanted(f, l, s, &asked_kinds, &asked_licences, &asked_additions, n) {
-            if !is_known(f, l, &kinds, &licences, &additions, k) {
+        if is_wanted(f, l, s, xk, xl, xa, n) {
+            if !is_known(f, l, kinds, licences, additions, k) {
                 kinds[k] = l.kinds;
                 licences[k] = l.licence;
                 additions[k] = l.addition;
@@ -186,12 +185,7 @@ fn find(f: &[u8], s: &[u8], a: Accepted, x: Asked, n: usize) -> Finds
             }
         }
     }
-    Finds {
-        count: k,
-        kinds,
-        licences,
-        additions,
-    }
+    k
 }
 
 // The mask of the k found licensees that satisfy the leaf x.
@@ -223,101 +217,124 @@ fn mask_of(
     m
 }
 
-// For each of n nodes the mask of the found licensees that satisfy it.
-fn met_by(f: &[u8], s: &[u8], y: Finds, x: Asked, n: usize) -> [u64; 127]
-    requires { ⌜ (y .count ≤ 30) × (length (y .kinds) ≡ 64) × (length (y .licences) ≡ 64) × (length (y .additions) ≡ 64)
-        × (n ≤ 127) × (length (x .kinds) ≡ 127) × (length (x .licences) ≡ 127) × (length (x .additions) ≡ 127) ⌝ }
-    ensures { λ r. ⌜ (take n r ≡ map (maskOf (now (f .entry)) (now (s .entry)) (triples (y .kinds) (y .licences) (y .additions) (y .count)))
-        (triples (x .kinds) (x .licences) (x .additions) n))
-        × (length r ≡ 127) ⌝ }
+// For each of n nodes the mask of the k found licensees that satisfy it.
+fn put_masks(
+    f: &[u8],
+    s: &[u8],
+    yk: &[u8],
+    yl: &[u64],
+    ya: &[u64],
+    k: usize,
+    xk: &[u8],
+    xl: &[u64],
+    xa: &[u64],
+    n: usize,
+    met: &mut [u64; 127],
+)
+    requires { ⌜ (k ≤ 30) × (k ≤ length (now yk)) × (k ≤ length (now yl)) × (k ≤ length (now ya))
+        × (n ≤ 127) × (n ≤ length (now xk)) × (n ≤ length (now xl)) × (n ≤ length (now xa))
+        × (length (now met) ≡ 127) ⌝ }
+    ensures { λ r. ⌜ (take n (now (met .exit))
+        ≡ map (maskOf (now (f .entry)) (now (s .entry)) (triples (now (yk .entry)) (now (yl .entry)) (now (ya .entry)) k))
+        (triples (now (xk .entry)) (now (xl .entry)) (now (xa .entry)) n))
+        × (length (now (met .exit)) ≡ 127) ⌝ }
 {
-    let k = y.count;
-    let found_kinds = y.kinds;
-    let found_licences = y.licences;
-    let found_additions = y.additions;
-    let asked_kinds = x.kinds;
-    let asked_licences = x.licences;
-    let asked_additions = x.additions;
-    let mut met = [0u64; 127];
     let mut i = 0;
     while i < n {
         let leaf = Terms {
-            kinds: asked_kinds[i],
-            licence: asked_licences[i],
-            addition: asked_additions[i],
+            kinds: xk[i],
+            licence: xl[i],
+            addition: xa[i],
         };
-        met[i] = mask_of(
-            f,
-            &found_kinds,
-            &found_licences,
-            &found_additions,
-            k,
-            s,
-            leaf,
-        );
+        met[i] = mask_of(f, yk, yl, ya, k, s, leaf);
         i += 1;
-    }
-    met
-}
-
-fn refuse(r: Refusal) -> Posed
-    ensures { λ p. ⌜ Poses p (refused r) ⌝ }
-{
-    Posed {
-        outcome: Outcome::Refused(r),
-        found: 0,
-        count: 0,
-        codes: [0; 127],
-        met: [0; 127],
     }
 }
 
 // A text that reads and a list that is valid.
-fn pose_found(s: &[u8], p: Parsed, file: &[u8], a: Accepted) -> Posed
-    requires { ⌜ (p .count ≤ 127) × (length (p .nodes) ≡ 127) × IsTree (take (p .count) (p .nodes))
-        × (a ≡ acceptedOf (listOf (now file))) × (a .outcome ≡ Read) × SmallList (listOf (now file)) ⌝ }
-    ensures { λ r. ⌜ Poses r (ofTree (now (file .entry)) (now (s .entry)) (treeOf (take (p .count) (p .nodes)))) ⌝ }
+fn pose_found(
+    s: &[u8],
+    file: &[u8],
+    a: Accepted,
+    kinds: &[u8],
+    licences: &[u64],
+    additions: &[u64],
+    n: usize,
+    met: &mut [u64; 127],
+) -> Posed
+    requires { ⌜ (a ≡ acceptedOf (listOf (now file))) × (a .outcome ≡ Read) × SmallList (listOf (now file))
+        × (n ≤ 127) × (length (now kinds) ≡ 127) × (length (now licences) ≡ 127) × (length (now additions) ≡ 127) × (length (now met) ≡ 127) ⌝ }
+    ensures { λ r. ⌜ PosesAny r (now (file .entry)) (now (s .entry)) (now (kinds .entry)) (now (licences .entry)) (now (additions .entry)) n (now (met .exit)) ⌝ }
 {
-    let n = p.count;
-    let x = ask(p);
-    let y = find(file, s, a, x, n);
-    let k = y.count;
+    let mut yk = [0u8; 64];
+    let mut yl = [0u64; 64];
+    let mut ya = [0u64; 64];
+    let k = find(
+        file,
+        s,
+        a,
+        kinds,
+        licences,
+        additions,
+        n,
+        &mut yk,
+        &mut yl,
+        &mut ya,
+    );
     if 30 < k {
-        return refuse(Refusal::TooManyRequirements(k));
+        return Posed::Refused(Refusal::TooManyRequirements(k));
     }
-    let codes = x.kinds;
-    Posed {
-        outcome: Outcome::Read,
+    put_masks(
+        file,
+        s,
+        &yk,
+        &yl,
+        &ya,
+        k,
+        kinds,
+        licences,
+        additions,
+        n,
+        met,
+    );
+    Posed::Is {
         found: k as u32,
         count: n,
-        codes,
-        met: met_by(file, s, y, x, n),
     }
 }
 
 // A text that reads.
-fn pose_read(s: &[u8], p: Parsed, file: &[u8]) -> Posed
-    requires { ⌜ (p .count ≤ 127) × (length (p .nodes) ≡ 127) × IsTree (take (p .count) (p .nodes)) ⌝ }
-    ensures { λ r. ⌜ Poses r (ofTree (now (file .entry)) (now (s .entry)) (treeOf (take (p .count) (p .nodes)))) ⌝ }
+fn pose_read(
+    s: &[u8],
+    file: &[u8],
+    kinds: &[u8],
+    licences: &[u64],
+    additions: &[u64],
+    n: usize,
+    met: &mut [u64; 127],
+) -> Posed
+    requires { ⌜ (n ≤ 127) × (length (now kinds) ≡ 127) × (length (now licences) ≡ 127) × (length (now additions) ≡ 127) × (length (now met) ≡ 127) ⌝ }
+    ensures { λ r. ⌜ PosesAny r (now (file .entry)) (now (s .entry)) (now (kinds .entry)) (now (licences .entry)) (now (additions .entry)) n (now (met .exit)) ⌝ }
 {
     let t = names::table::table();
     let a = licensee::read(&t, file);
     let outcome = a.outcome;
     match outcome {
-        Outcome::Refused(r) => refuse(r),
-        Outcome::Read => pose_found(s, p, file, a),
+        Outcome::Refused(r) => Posed::Refused(r),
+        Outcome::Read => pose_found(s, file, a, kinds, licences, additions, n, met),
     }
 }
 
 // The text, then the list, then how many are found.
-fn pose(s: &[u8], m: Mode, file: &[u8]) -> Posed
-    ensures { λ r. ⌜ Poses r (problemOf (now (s .entry)) m (now (file .entry))) ⌝ }
+fn pose(s: &[u8], m: Mode, file: &[u8], codes: &mut [u8; 127], met: &mut [u64; 127]) -> Posed
+    requires { ⌜ (length (now codes) ≡ 127) × (length (now met) ≡ 127) ⌝ }
+    ensures { λ r. ⌜ Poses r (problemOf (now (s .entry)) m (now (file .entry))) (now (codes .exit)) (now (met .exit)) ⌝ }
 {
-    let p = parser::parse(s, m);
-    let outcome = p.outcome;
-    match outcome {
-        Outcome::Refused(r) => refuse(r),
-        Outcome::Read => pose_read(s, p, file),
+    let mut licences = [0u64; 127];
+    let mut additions = [0u64; 127];
+    match ask(s, m, codes, &mut licences, &mut additions) {
+        Asked::Refused(r) => Posed::Refused(r),
+        Asked::Nodes(n) => pose_read(s, file, codes, &licences, &additions, n, met),
     }
 }
 
@@ -325,14 +342,11 @@ fn pose(s: &[u8], m: Mode, file: &[u8]) -> Posed
 pub fn choice(s: &[u8], m: Mode, file: &[u8], budget: u64) -> Choice
     ensures { λ r. ⌜ r ≡ choiceOf (now (s .entry)) m (now (file .entry)) budget ⌝ }
 {
-    let p = pose(s, m, file);
-    let outcome = p.outcome;
-    let n = p.count;
-    let codes = p.codes;
-    let met = p.met;
-    match outcome {
-        Outcome::Refused(r) => Choice::Refused(r),
-        Outcome::Read => masks::choose(&codes[..n], &met[..n], p.found, budget),
+    let mut codes = [0u8; 127];
+    let mut met = [0u64; 127];
+    match pose(s, m, file, &mut codes, &mut met) {
+        Posed::Refused(r) => Choice::Refused(r),
+        Posed::Is { found, count } => masks::choose(&codes[..count], &met[..count], found, budget),
     }
 }
 
@@ -340,13 +354,16 @@ pub fn choice(s: &[u8], m: Mode, file: &[u8], budget: u64) -> Choice
 pub fn listing(s: &[u8], m: Mode, file: &[u8], cursor: u64, budget: u64) -> Listing
     ensures { λ r. ⌜ r ≡ listingOf (now (s .entry)) m (now (file .entry)) cursor budget ⌝ }
 {
-    let p = pose(s, m, file);
-    let outcome = p.outcome;
-    let n = p.count;
-    let codes = p.codes;
-    let met = p.met;
-    match outcome {
-        Outcome::Refused(r) => Listing::Refused(r),
-        Outcome::Read => masks::list(&codes[..n], &met[..n], p.found, cursor, budget),
+    let mut codes = [0u8; 127];
+    let mut met = [0u64; 127];
+    match pose(s, m, file, &mut codes, &mut met) {
+        Posed::Refused(r) => Listing::Refused(r),
+        Posed::Is { found, count } => masks::list(
+            &codes[..count],
+            &met[..count],
+            found,
+            cursor,
+            budget,
+        ),
     }
 }

@@ -15,25 +15,36 @@ use Rattle.minimize.proofs.choice.Lts as lts
 
 -- where the text reads and the list is valid
 abbrev Read : Type 0
-Read = lts.After-enum-told (pose-reads.Asked, pose-reads.Learnt, choose-reads.Asked, choose-reads.Learnt) reads.Pre reads.Post
+Read = lts.After-known-told2 (pose-reads.Asked, pose-reads.Learnt, choose-reads.Asked, choose-reads.Learnt) reads.Pre reads.Post
 
 abbrev problem : Read → Problem
-problem c = let a = c .before .before .before .before .before .before .before .args in problemOf (now (a .s)) (a .m) (now (a .file))
+problem c =
+    let a = c .before .before .before .before .before .before .before .before .args in
+    problemOf (now (a .s)) (a .m) (now (a .file))
 
-stands : (c : Read) → Stands (c .before .before .before .before .pose .result) (problem c)
-stands c = let p = c .before .before .before .before in posed-read (p .pose .result) (problem c) (p .pose .ensures) (c .enum-told .given .1)
+abbrev StandsAt : Read → Type 0
+StandsAt c =
+    let y = c .before .before .before .pose .last in
+    let g = c .before .found .given .0 in
+    Stands (y .1 .1 .1 .0) (y .1 .1 .1 .1 .0) (g .0) (g .1 .0) (problem c)
+
+stands : (c : Read) → StandsAt c
+stands c =
+    let p = c .before .before .before .pose in
+    posed-read (p .result) _ _ (problem c) _ _ (p .ensures) (c .before .found .given .1)
 
 choose-requires : tie.Need-choose-requires
 choose-requires c κs =
     let w = stands (c .before .before) in
-    (w .level, omega (arith, w .few), posed-empty _ _ _ _ w)
+    (w .level, omega (arith, w .few), posed-empty _ _ _ _ _ _ _ w)
 
 returns : tie.Need-returns
 unfolding choiceOf
 returns c =
-    let p = c .before .before .before .before .before in
-    let a = p .before .before .before .args in
-    let e = posed-refused (p .pose .result) (problemOf (now (a .s)) (a .m) (now (a .file))) _ (p .pose .ensures) (c .before .outcome .given .1) in
+    let o = c .before in
+    let p = o .before .before in
+    let a = p .before .before .before .before .before .args in
+    let e = posed-refused (p .pose .result) _ _ (problemOf (now (a .s)) (a .m) (now (a .file))) _ (p .pose .ensures) (o .r .given .1) in
     sym (ap (λ (x : Problem). chosenIn x (a .budget)) e)
 
 returns-2 : tie.Need-returns-2

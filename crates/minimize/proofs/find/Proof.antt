@@ -13,24 +13,26 @@ use Rattle.minimize.proofs.find.Statement.{statement}
 use Rattle.minimize.proofs.find.Tie as tie
 
 abbrev Inv-loop : tie.InvT-loop
-Inv-loop f s n count listed-kinds listed-licences listed-additions asked-kinds asked-licences asked-additions kinds₀ licences₀ additions₀ k₀ i₀ kinds licences additions k i =
-    (i ≤ count) × (k ≤ i)
-    × (triples kinds licences additions k
-    ≡ foundTerms f s (triples asked-kinds asked-licences asked-additions n) (triples listed-kinds listed-licences listed-additions i))
+Inv-loop f s xk xl xa n kinds₀ licences₀ additions₀ a count k₀ i₀ kinds licences additions k i =
+    (i ≤ a .count) × (k ≤ i)
+    × (triples kinds licences additions k ≡ foundTerms f s (triples xk xl xa n) (triples (a .kinds) (a .licences) (a .additions) i))
     × (length kinds ≡ 64) × (length licences ≡ 64) × (length additions ≡ 64)
 
 abbrev μ-loop : tie.MeasureT-loop
-μ-loop f s n count listed-kinds listed-licences listed-additions asked-kinds asked-licences asked-additions kinds₀ licences₀ additions₀ k₀ i₀ kinds licences additions k i = count - i
+μ-loop f s xk xl xa n kinds₀ licences₀ additions₀ a count k₀ i₀ kinds licences additions k i = count - i
 
 loop-holds : tie.Need-loop-holds Inv-loop μ-loop
 unfolding triples foundTerms foundAfter
-loop-holds c = (omega arith, omega arith, refl, refl, refl, refl)
+loop-holds c =
+    let h = c .before .before .before .before .before .pre in
+    (omega arith, omega arith, refl, h .7, h .8, h .9)
 
 loop-again : tie.Need-loop-again Inv-loop μ-loop
 loop-again c =
-    let l = c .before .before .before .before .before .before .before .before .before .before .before .loop in
+    let d = c .before .before .before .before .before .before .before .before in
+    let l = d .before .before .before .before .before .before .loop in
     let v = l .inv in
-    let w = sym (c .before .before .before .before .before .before .is-wanted .ensures) ∙ c .before .before .before .before .before .if1 .taken in
+    let w = sym (d .before .is-wanted .ensures) ∙ d .if1 .taken in
     let n = sym (c .before .is-known .ensures) ∙ not-true _ (c .if2 .taken) in (
       omega arith,
       omega arith,
@@ -42,9 +44,10 @@ loop-again c =
 
 loop-again-2 : tie.Need-loop-again-2 Inv-loop μ-loop
 loop-again-2 c =
-    let l = c .before .before .before .before .before .before .before .before .before .before .before .loop in
+    let d = c .before .before .before .before .before .before .before .before in
+    let l = d .before .before .before .before .before .before .loop in
     let v = l .inv in
-    let w = sym (c .before .before .before .before .before .before .is-wanted .ensures) ∙ c .before .before .before .before .before .if1 .taken in
+    let w = sym (d .before .is-wanted .ensures) ∙ d .if1 .taken in
     let n = sym (c .before .is-known .ensures) ∙ not-false _ (c .if2 .left) in
     (omega arith, omega arith, found-known _ _ _ _ _ _ (l .i) _ (v .2) w n, v .3, v .4, v .5)
 
@@ -55,11 +58,12 @@ loop-again-3 c =
     let w = sym (c .before .is-wanted .ensures) ∙ c .if1 .left in
     (omega arith, omega arith, found-unwanted _ _ _ _ _ _ (l .i) _ (v .2) w, v .3, v .4, v .5)
 
+-- the check calls the argument a `t3`
 returns : tie.Need-returns Inv-loop μ-loop
 returns c =
     let l = c .before .loop in
     let v = l .inv in
-    let e : l .i ≡ c .before .before .before .before .before .before .before .before .before .before .args .a .count = omega arith in
+    let e : l .i ≡ c .before .before .before .before .before .before .before .args .t3 .count = omega arith in
     (rw e at (v .2), omega arith, v .3, v .4, v .5)
 
 pub find-spec : {M : Type 1} → statement M
@@ -75,13 +79,7 @@ find-spec =
     (λ c. omega arith)
     (λ c. omega arith)
     (λ c. omega arith)
-    (λ c. omega arith)
-    (λ c. omega arith)
-    (λ c. omega arith)
     (λ c κs. search needs)
-    (λ c. omega arith)
-    (λ c. omega arith)
-    (λ c. omega arith)
     (λ c κs. search needs)
     (λ c. omega arith)
     (λ c. omega arith)

@@ -15,13 +15,23 @@ use Rattle.minimize.proofs.listing.Lts as lts
 
 -- where the text reads and the list is valid
 abbrev Read : Type 0
-Read = lts.After-enum-told (pose-reads.Asked, pose-reads.Learnt, list-reads.Asked, list-reads.Learnt) reads.Pre reads.Post
+Read = lts.After-known-told2 (pose-reads.Asked, pose-reads.Learnt, list-reads.Asked, list-reads.Learnt) reads.Pre reads.Post
 
 abbrev problem : Read → Problem
-problem c = let a = c .before .before .before .before .before .before .before .args in problemOf (now (a .s)) (a .m) (now (a .file))
+problem c =
+    let a = c .before .before .before .before .before .before .before .before .args in
+    problemOf (now (a .s)) (a .m) (now (a .file))
 
-stands : (c : Read) → Stands (c .before .before .before .before .pose .result) (problem c)
-stands c = let p = c .before .before .before .before in posed-read (p .pose .result) (problem c) (p .pose .ensures) (c .enum-told .given .1)
+abbrev StandsAt : Read → Type 0
+StandsAt c =
+    let y = c .before .before .before .pose .last in
+    let g = c .before .found .given .0 in
+    Stands (y .1 .1 .1 .0) (y .1 .1 .1 .1 .0) (g .0) (g .1 .0) (problem c)
+
+stands : (c : Read) → StandsAt c
+stands c =
+    let p = c .before .before .before .pose in
+    posed-read (p .result) _ _ (problem c) _ _ (p .ensures) (c .before .found .given .1)
 
 list-requires : tie.Need-list-requires
 list-requires c κs =
@@ -31,9 +41,10 @@ list-requires c κs =
 returns : tie.Need-returns
 unfolding listingOf
 returns c =
-    let p = c .before .before .before .before .before in
-    let a = p .before .before .before .args in
-    let e = posed-refused (p .pose .result) (problemOf (now (a .s)) (a .m) (now (a .file))) _ (p .pose .ensures) (c .before .outcome .given .1) in
+    let o = c .before in
+    let p = o .before .before in
+    let a = p .before .before .before .before .before .args in
+    let e = posed-refused (p .pose .result) _ _ (problemOf (now (a .s)) (a .m) (now (a .file))) _ (p .pose .ensures) (o .r .given .1) in
     sym (ap (λ (x : Problem). listedIn x (a .cursor) (a .budget)) e)
 
 returns-2 : tie.Need-returns-2

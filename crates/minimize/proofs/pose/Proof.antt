@@ -1,33 +1,45 @@
 -- A text that is refused is the problem's refusal; one that reads is a tree's nodes.
-use mathlib.Core.Path.{sym, subst}
+use mathlib.Core.Path.{refl, sym}
 use denote.Ref.{now}
 use borrow.Author.Needs.{needs}
-use Rattle.minimize.specs.Posed.{Poses}
-use Rattle.minimize.specs.ProblemLaws.{problem-unread, problem-read}
+use Rattle.minimize.specs.ProblemLaws.{Reads, problem-unread, problem-read}
+use Rattle.minimize.proofs.ask.Reads as ask-reads
+use Rattle.minimize.proofs.pose_read.Reads as pose-read-reads
 use Rattle.minimize.proofs.pose.Statement.{statement}
 use Rattle.minimize.proofs.pose.Tie as tie
+use Rattle.minimize.proofs.pose.Reads as reads
+use Rattle.minimize.proofs.pose.Lts as lts
+
+-- where the text reads
+abbrev Read : Type 0
+Read = lts.After-known-told2 (ask-reads.Asked, ask-reads.Learnt, pose-read-reads.Asked, pose-read-reads.Learnt) reads.Pre reads.Post
+
+abbrev ReadOf : Read → Type 0
+ReadOf c =
+    let y = c .before .before .before .ask .last in
+    let a = c .before .before .before .before .before .before .before .before .before .args in
+    Reads (now (a .s)) (a .m) (now (a .file)) (y .1 .1 .0) (y .1 .1 .1 .0) (y .1 .1 .1 .1 .0) (c .before .n .given .0 .0)
+
+read : (c : Read) → ReadOf c
+read c =
+    let p = c .before .before .before in
+    problem-read _ _ _ _ _ _ (p .ask .result) (p .ask .ensures) _ (c .before .n .given .1)
 
 pose-read-requires : tie.Need-pose-read-requires
 pose-read-requires c κs =
-    let p = c .before .before in
-    let start = p .before .before .before in
-    let w = problem-read (now (start .args .s)) (start .args .m) (now (start .args .file)) (p .parse .result) (p .parse .ensures) (c .enum-told .given .1) in
-    (w .few, w .room, w .tree)
+    let told = c .before .before .before .before .before in
+    let w = read told in
+    (w .few, w .room .0, w .room .1, w .room .2, told .before .before .before .before .before .before .before .before .before .pre .1)
 
 returns : tie.Need-returns
 returns c =
-    let o = c .before .before in
+    let o = c .before in
     let p = o .before .before in
-    let start = p .before .before .before in
-    let e = problem-unread (now (start .args .s)) (start .args .m) (now (start .args .file)) (p .parse .result) (p .parse .ensures) _ (o .outcome .given .1) in
-    subst (Poses (c .refuse .result)) (sym e) (c .refuse .ensures)
+    let a = p .before .before .before .before .before .before .args in
+    rw (problem-unread (now (a .s)) (a .m) (now (a .file)) _ _ _ (p .ask .result) (p .ask .ensures) _ (o .r .given .1)) refl
 
 returns-2 : tie.Need-returns-2
-returns-2 c =
-    let p = c .before .before .before in
-    let start = p .before .before .before in
-    let w = problem-read (now (start .args .s)) (start .args .m) (now (start .args .file)) (p .parse .result) (p .parse .ensures) (c .before .enum-told .given .1) in
-    subst (Poses (c .pose-read .result)) (sym (w .problem)) (c .pose-read .ensures)
+returns-2 c = read (c .before .before .before .before .before .before) .problem (c .pose-read .result) _ (c .pose-read .ensures)
 
 pub pose-spec : {M : Type 1} → statement M
 pose-spec =
@@ -35,8 +47,9 @@ pose-spec =
     (tie.spec
     (λ c κs. search needs)
     (λ c. search needs)
-    (λ c κs. search needs)
     (λ c. search needs)
+    (λ c. sym (read (c .before .before .before) .room .1))
+    (λ c. sym (read (c .before .before .before .before) .room .2))
     pose-read-requires
     returns
     returns-2)

@@ -1,19 +1,16 @@
 -- A list that is refused is the problem's refusal; one that is valid is posed.
-use mathlib.Core.Path.{sym, subst}
 use denote.Ref.{now}
 use borrow.Author.Needs.{needs}
-use Rattle.minimize.specs.Posed.{Poses}
-use Rattle.minimize.specs.ProblemLaws.{problem-unlisted}
+use Rattle.minimize.specs.ProblemLaws.{poses-unlisted}
 use Rattle.minimize.proofs.pose_read.Statement.{statement}
 use Rattle.minimize.proofs.pose_read.Tie as tie
 
 returns : tie.Need-returns
 returns c =
-    let o = c .before .before in
+    let o = c .before in
     let m = o .before .before in
-    let start = m .before .before .before .before .before in
-    let e = problem-unlisted (now (start .args .file)) (now (start .args .s)) _ (m .read .result) _ (start .pre .2) (m .read .ensures .0) (o .outcome .given .1) in
-    subst (Poses (c .refuse .result)) (sym e) (c .refuse .ensures)
+    let start = m .before .before .before .before .before .before .before .before in
+    poses-unlisted (now (start .args .file)) (now (start .args .s)) (m .read .result) _ (m .read .ensures .0) (o .outcome .given .1) _ _ _ _ _
 
 pub pose-read-spec : {M : Type 1} → statement M
 pose-read-spec =
@@ -23,7 +20,6 @@ pose-read-spec =
     (λ c. search needs)
     (λ c κs. search needs)
     (λ c. search needs)
-    (λ c κs. search needs)
     (λ c. search needs)
     (λ c κs. search needs)
     returns

@@ -7,21 +7,21 @@ use lib.ListN.{length, take, length-set}
 use borrow.Author.Needs.{needs}
 use Rattle.minimize.specs.Posed.{triples, maskOf}
 use Rattle.minimize.specs.ArrayLaws.{met-next}
-use Rattle.minimize.proofs.met_by.Statement.{statement}
-use Rattle.minimize.proofs.met_by.Tie as tie
+use Rattle.minimize.proofs.put_masks.Statement.{statement}
+use Rattle.minimize.proofs.put_masks.Tie as tie
 
 abbrev Inv-loop : tie.InvT-loop
-Inv-loop f s n k found-kinds found-licences found-additions asked-kinds asked-licences asked-additions met₀ i₀ met i =
-    (i ≤ n)
-    × (take i met ≡ map (maskOf f s (triples found-kinds found-licences found-additions k)) (triples asked-kinds asked-licences asked-additions i))
-    × (length met ≡ 127)
+Inv-loop f s yk yl ya k xk xl xa n met₀ i₀ met i =
+    (i ≤ n) × (take i met ≡ map (maskOf f s (triples yk yl ya k)) (triples xk xl xa i)) × (length met ≡ 127)
 
 abbrev μ-loop : tie.MeasureT-loop
-μ-loop f s n k found-kinds found-licences found-additions asked-kinds asked-licences asked-additions met₀ i₀ met i = n - i
+μ-loop f s yk yl ya k xk xl xa n met₀ i₀ met i = n - i
 
 loop-holds : tie.Need-loop-holds Inv-loop μ-loop
 unfolding triples
-loop-holds c = (omega arith, refl, refl)
+loop-holds c =
+    let h = c .before .before .before .before .before .before .before .before .pre in
+    (omega arith, refl, h .8)
 
 loop-again : tie.Need-loop-again Inv-loop μ-loop
 loop-again c =
@@ -35,16 +35,13 @@ returns c =
     let e : l .i ≡ c .before .before .before .before .before .before .before .before .before .before .args .n = omega arith in
     (rw e at (l .inv .1), l .inv .2)
 
-pub met-by-spec : {M : Type 1} → statement M
-met-by-spec =
+pub put-masks-spec : {M : Type 1} → statement M
+put-masks-spec =
     tie.close
     (tie.spec
     Inv-loop
     μ-loop
     loop-holds
-    (λ c. omega arith)
-    (λ c. omega arith)
-    (λ c. omega arith)
     (λ c. omega arith)
     (λ c. omega arith)
     (λ c. omega arith)
