@@ -1,20 +1,23 @@
 -- The third demand is kept by the definitions, where the empty set fails and all found together satisfy if any set of them does.
 use Prim.Native.Nat.{ℕ, zero, suc, _+_, _-_, _^_, _≤_, _<_, min}
-use mathlib.Core.Path.{_≡_, refl, sym, ap, _∙_, fun-ext}
+use mathlib.Core.Path.{_≡_, refl, sym, ap, subst, _∙_, fun-ext}
 use mathlib.Core.Bool.{Bool, true, false, true≢false}
 use mathlib.Core.List.{List, [], _∷_, List·Memᴰ, List·Memᴰ·head, List·Memᴰ·not-nil, List·Memᴰ·cases-cons}
 use mathlib.Core.Logic.{⊎-elim}
 use native.Mathlib.Decide.{decLt}
 use native.Mathlib.Omega.{arith}
+use lib.Dec.{eqb, ltb}
 use lib.Pow.{pow-pos}
+use borrow.Author.Tests.{ltb-true}
 use Rattle.text.specs.First.{first}
-use Rattle.text.specs.FirstLaws.{first-unique}
+use Rattle.text.specs.FirstLaws.{Stop, first-stop, first-unique}
+use Rattle.text.specs.Tests.{by-cond}
 use Rattle.refusal.specs.declared.Refusal.the-variants.{RequirementsUnmet}
 use Rattle.masks.specs.declared.Choice.{Choice}
 use Rattle.masks.specs.declared.Choice.the-variants as C
 use Rattle.masks.specs.declared.Listing.{Listing}
 use Rattle.masks.specs.declared.Listing.the-variants.{Found, Paused, Finished, Refused}
-use Rattle.masks.specs.Masks.{minimal, listed, chosen}
+use Rattle.masks.specs.Masks.{minimal, settled, listed, chosen}
 use Rattle.masks.specs.MasksLaws.{settled-mask, settled-paused, chosen-unmet, chosen-some}
 use Rattle.masks.specs.Promise.{Ascending, Minimal, Moves, Promise, Kept}
 use Rattle.masks.specs.Least.{minimal-is, minimal-when, minimal-below}
@@ -124,6 +127,36 @@ pub kept : (sat : ℕ → Bool) (k : ℕ) → sat 0 ≡ false → ((m : ℕ) →
 kept sat k z tops β some =
     let r = runs (minimal sat k) (listed sat k) (2 ^ k) (listed-says sat k) β some 1 (omega arith) (pow-pos k) in
     record { masks = r .0; run = r .1; promise = promised sat k z tops (r .0) (r .2) }
+
+-- a mask that is chosen satisfies, and no lesser one does
+module _ (sat : ℕ → Bool) (empty-not : sat 0 ≡ false) where
+  abbrev Least : Choice → Type 0
+  Least (C.Mask x) = (sat x ≡ true) × ((y : ℕ) → sat y ≡ true → x ≤ y)
+  Least (C.Paused p) = Unit {0}
+  Least (C.Refused r) = Unit {0}
+
+  -- the first from 1 on that satisfies is the least, since 0 does not
+  least-of : (n x y : ℕ) → Stop sat n 1 x → sat y ≡ true → x ≤ y
+  least-of n x zero w q = absurd (true≢false (sym q ∙ empty-not))
+  least-of n x (suc y) w q = go (decLt (suc y) x)
+    where
+      go : Dec (suc y < x) → x ≤ suc y
+      go (yes h) = absurd (true≢false (sym q ∙ w .before (suc y) (omega arith) h))
+      go (no h) = omega arith
+
+  least-chosen : (k b : ℕ) → Least (chosen sat k b)
+  unfolding chosen settled
+  least-chosen k b =
+      by-cond Least (sat (2 ^ k - 1)) _ _
+      (λ a.
+      by-cond Least (eqb b 0) _ _ (λ z. tt)
+      (λ z.
+      by-cond Least (ltb (first sat b 1) (1 + b)) _ _
+      (λ l. (first-stop sat b 1 .here (ltb-true _ _ l), λ y q. least-of b (first sat b 1) y (first-stop sat b 1) q)) (λ l. tt)))
+      (λ a. tt)
+
+  pub chosen-least : (k b x : ℕ) → chosen sat k b ≡ C.Mask x → (sat x ≡ true) × ((y : ℕ) → sat y ≡ true → x ≤ y)
+  chosen-least k b x e = subst Least e (least-chosen k b)
 
 -- what has the same answers says the same
 

@@ -2,7 +2,7 @@
 -- either. Found licensees are those, in list order, that satisfy some leaf and equal no earlier found one; bit 0 is the first. Let k be their number.
 -- Choice and listing take text, mode and list"; "Then 17, 18, and for choice 19, 21, for the listing 20, 21".
 use Prim.Native.Nat.{ℕ, _/_, _%_}
-use mathlib.Core.Bool.{Bool, true, false, cond, not, _&&_, _||_}
+use mathlib.Core.Bool.{Bool, false, cond, not, _&&_, _||_}
 use mathlib.Core.List.{List, [], _∷_, _++_}
 use mathlib.Core.Option.{Option, none, some}
 use lib.Dec.{eqb, ltb}

@@ -1,8 +1,8 @@
 -- The third demand, of the public definitions: the listing of a text and a list, resumed until it is finished, gives every set of found licensees that
 -- satisfies and loses that if any member is taken out, as masks/specs/Promise.antt says it.
 use Prim.Native.Nat.{ℕ, _≤_}
-use mathlib.Core.Path.{_≡_, ap, _∙_}
-use mathlib.Core.Bool.{Bool}
+use mathlib.Core.Path.{_≡_, sym, ap, _∙_}
+use mathlib.Core.Bool.{Bool, true}
 use mathlib.Core.List.{List}
 use lib.ListN.{length}
 use borrow.Author.Tests.{le-ltb}
@@ -18,7 +18,8 @@ use Rattle.licensee.specs.declared.Licensee.{Licensee}
 use Rattle.licensee.specs.Offers.{good, listOf}
 use Rattle.masks.specs.Masks.{listed, chosen}
 use Rattle.masks.specs.Promise.{Kept}
-use Rattle.masks.specs.Kept.{kept, kept-same}
+use Rattle.masks.specs.Kept.{kept, kept-same, chosen-least}
+use Rattle.masks.specs.declared.Choice.the-variants as C
 use Rattle.minimize.specs.Minimize.{foundOf, satisfied, posed, limited, problemOf, choiceOf, listingOf}
 use Rattle.minimize.specs.PosedLaws.{tree-of}
 use Rattle.minimize.specs.Satisfaction.{satisfied-none, satisfied-all}
@@ -42,6 +43,21 @@ module _ (s : List ℕ) (m : Mode) (f : List ℕ) (t : Tree Leaf) (b : Before) (
 
       sat : ℕ → Bool
       sat = satisfied f s (foundOf f s t ls) t
+
+  -- a set that is chosen satisfies, and no set of a lesser mask does
+  pub choice-least : (b x : ℕ) → choiceOf s m f b ≡ C.Mask x
+      → (satisfied f s (foundOf f s t ls) t x ≡ true) × ((y : ℕ) → satisfied f s (foundOf f s t ls) t y ≡ true → x ≤ y)
+  choice-least b x e =
+      chosen-least sat (satisfied-none f s (foundOf f s t ls) t) k b x (sym q ∙ e)
+    where
+      k : ℕ
+      k = length (foundOf f s t ls)
+
+      sat : ℕ → Bool
+      sat = satisfied f s (foundOf f s t ls) t
+
+      q : choiceOf s m f b ≡ chosen sat k b
+      q = unfold choiceOf in rw problem-posed
 
 -- a list whose licensees are ls and a text whose nodes are q: they are a tree's, and where at most 30 are found the third demand is kept
 pub record ThirdFor (s : List ℕ) (m : Mode) (f : List ℕ) (q : List Node) (ls : List Licensee) : Type 0 where

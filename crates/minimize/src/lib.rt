@@ -12,7 +12,6 @@ ghost use Rattle.minimize.specs.Minimize.{someOf, problemOf, choiceOf, l
 ghost use Rattle.minimize.specs.Posed.{kindTerms, SmallKind, triples, foundTerms, maskOf, askedOf, Asks, Poses, PosesAny};
 use grammar::Kind;
 use grammar::Outcome;
-use grammar::Parsed;
 use licensee::Accepted;
 use licensee::Terms;
 pub use masks::Choice;
