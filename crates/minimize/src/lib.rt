@@ -2,7 +2,7 @@
 // nodes.
 ghost use mathlib.Core.Path.{_≡_};
 ghost use mathlib.Core.List.{map};
-ghost use Prim.Native.Nat.{_<_, _≤_};
+ghost use Prim.Native.Nat.{_≤_};
 ghost use lib.ListN.{length, take};
 ghost use Rattle.grammar.specs.Grammar.{parseOf};
 ghost use Rattle.grammar.specs.declared.Outcome.the-variants.{Read};
