@@ -8,9 +8,11 @@ use native.Mathlib.Nat.{sub-zero}
 use lib.Dec.{eqb, leb, ltb}
 use lib.ListN.{length, set, replicate, length-append, length-map}
 use lib.Seq.{set-append-seam}
-use borrow.Author.Tests.{eq-eqb, ne-eqb, le-leb, eqb-true, eqb-false, leb-true, lt-ltb, le-ltb, ltb-false, not-false}
+use borrow.Author.Tests.{eq-eqb, ne-eqb, le-leb, eqb-true, eqb-false, leb-true, lt-ltb, le-ltb, ltb-true, ltb-false, not-false}
 use Rattle.text.specs.Text.{part}
 use Rattle.text.specs.Tests.{both, neither, cond-true, cond-false}
+use Rattle.refusal.specs.Refused.{span}
+use Rattle.refusal.specs.declared.Span.{Span}
 use Rattle.refusal.specs.declared.Refusal.{Refusal}
 use Rattle.refusal.specs.declared.Refusal.the-variants.{BadList}
 use Rattle.grammar.specs.declared.Outcome.the-variants as O
@@ -20,7 +22,7 @@ use Rattle.licensee.specs.declared.Body.the-variants as B
 use Rattle.licensee.specs.declared.Terms.{Terms}
 use Rattle.licensee.specs.declared.Accepted.{Accepted}
 use Rattle.licensee.specs.declared.Listed.the-variants.{Valid, Refused}
-use Rattle.licensee.specs.Offers.{bodyOf, at16, count, offset, size, placed, offerOf, wrongEntry, Accepts, good, wrong, before, entryThen, entriesFrom, contents, listOf, checkedOf, hasEntry, entryOf, entryAt}
+use Rattle.licensee.specs.Offers.{bodyOf, at16, count, offset, size, placed, offerOf, wrongEntry, Accepts, good, wrong, before, entryThen, entriesFrom, contents, listOf, checkedOf, hasEntry, entryOf, entryAt, placeOf}
 use Rattle.licensee.specs.Terms.{offeredTerms, padded, kindsOf, licencesOf, additionsOf, acceptedOf, SmallLicensee, SmallAll, SmallList}
 
 -- ---- an entry
@@ -397,3 +399,33 @@ entry-room f i c e h = go (listOf f) refl e
         let n : length ls ≡ c = cc in
         (omega (arith, list-count f ls q .1), entry-within f ls i q (omega arith))
     go (wrong r) q k = absurd (let z : _≡_ {A = ℕ} 0 1 = cc in omega arith)
+
+module _ (f : List ℕ) (i : ℕ) where
+  pub place-none : hasEntry i (listOf f) ≡ false → placeOf f i ≡ span 0 0
+  unfolding placeOf
+  place-none e = cond-false (hasEntry i (listOf f)) _ _ e
+
+  pub place-some : hasEntry i (listOf f) ≡ true → placeOf f i ≡ span (offset f i) (offset f i + size f i)
+  unfolding placeOf
+  place-some e = cond-true (hasEntry i (listOf f)) _ _ e
+
+  -- an entry that there is lies within the file
+  has-room : (w : Accepts) → listOf f ≡ w → hasEntry i w ≡ true → offset f i + size f i ≤ length f
+  has-room (good ls) q e = entry-within f ls i q (ltb-true i (length ls) e)
+  has-room (wrong r) q e = absurd (true≢false (sym e))
+
+  -- what is known of a place: it lies in the file, and has the entry's bytes
+  abbrev pub Lies : Span → Type 0
+  Lies p = (p .start ≤ p .end) × (p .end ≤ length f) × (part (p .start) (p .end) f ≡ entryOf f i) × (p .start ≡ entryAt f i)
+
+  pub place-part : Lies (placeOf f i)
+  unfolding part
+  place-part = go (hasEntry i (listOf f)) refl
+    where
+      go : (b : Bool) → hasEntry i (listOf f) ≡ b → Lies (placeOf f i)
+      go true e =
+          let n = entry-some f i e in
+          subst Lies (sym (place-some e)) (omega arith, has-room (listOf f) refl e, sym (n .0), sym (n .1))
+      go false e =
+          let n = entry-none f i e in
+          subst Lies (sym (place-none e)) (omega arith, omega arith, sym (n .0), sym (n .1))

@@ -195,3 +195,7 @@ entryOf f i = cond (hasEntry i (listOf f)) (part (offset f i) (offset f i + size
 
 unfoldable pub entryAt : List ℕ → ℕ → ℕ
 entryAt f i = cond (hasEntry i (listOf f)) (offset f i) 0
+
+-- the range of the file that the body takes
+unfoldable pub placeOf : List ℕ → ℕ → Span
+placeOf f i = cond (hasEntry i (listOf f)) (record { start = offset f i; end = offset f i + size f i }) (record { start = 0; end = 0 })

@@ -5,7 +5,7 @@ use Rattle.text.specs.One.{One, one}
 use Rattle.grammar.specs.declared.Licence.{Licence}
 use Rattle.grammar.specs.declared.Addition.{Addition}
 use Rattle.licensee.specs.declared.Terms.{Terms}
-use Rattle.licensee.specs.Offers.{listOf, checkedOf, entryOf, entryAt}
+use Rattle.licensee.specs.Offers.{listOf, checkedOf, entryOf, entryAt, placeOf}
 use Rattle.licensee.specs.Terms.{termsOf, sameTerms, meets, acceptedOf}
 
 check-one : (f : List ℕ) → One (checkedOf (listOf f))
@@ -19,6 +19,9 @@ entry-block-one block = one block
 
 entry-place-one : (f : List ℕ) (i at : ℕ) → One (entryAt f i + at)
 entry-place-one f i at = one (entryAt f i + at)
+
+place-one : (f : List ℕ) (i : ℕ) → One (placeOf f i)
+place-one f i = one (placeOf f i)
 
 terms-of-one : (l : Licence) (a : Addition) → One (termsOf l a)
 terms-of-one l a = one (termsOf l a)

@@ -5,7 +5,7 @@ ghost use lib.ListN.{length};
 ghost use Rattle.names.specs.Layout.{words};
 ghost use Rattle.lexer.specs.Tokens.{tokensOf};
 ghost use Rattle.mode.specs.Modes.{strict};
-ghost use Rattle.licensee.specs.Offers.{rangeFrom, partFrom, nameIn, licenceIn, additionIn, behindWith, behindLicence, bodyOf, at16, offerOf, wrong, entriesFrom, contents, listOf, checkedOf, entryOf, entryAt};
+ghost use Rattle.licensee.specs.Offers.{rangeFrom, partFrom, nameIn, licenceIn, additionIn, behindWith, behindLicence, bodyOf, at16, offerOf, wrong, entriesFrom, contents, listOf, checkedOf, entryOf, entryAt, placeOf};
 ghost use Rattle.licensee.specs.Terms.{rangeNumber, referenceTerm, licenceTerm, additionTerm, termsOf, SmallRange, SmallPart, SmallLicence, SmallAddition, sameNames, sameDocuments, sameTerm, sameTerms, meets, acceptedOf, SmallList, FitsPart, FitsToken, endOf};
 use grammar::Addition;
 use grammar::Licence;
@@ -442,18 +442,31 @@ pub fn check(file: &[u8]) -> Listed
     }
 }
 
+// Where the body of an entry stands in the file: nowhere, at its start, where the file is wrong or has no such entry.
+pub fn place(file: &[u8], i: usize) -> Span
+    ensures { λ r. ⌜ r ≡ placeOf (now (file .entry)) i ⌝ }
+{
+    let Listed::Valid(c) = check(file) else {
+        return Span { start: 0, end: 0 };
+    };
+    if c <= i {
+        return Span { start: 0, end: 0 };
+    }
+    let from = get16(file, 1 + 4 * i);
+    let n = get16(file, 3 + 4 * i);
+    Span {
+        start: from,
+        end: from + n,
+    }
+}
+
 // The body of an entry as a part of the file itself; an empty part where the file is wrong or has no such entry.
 pub fn entry(file: &[u8], i: usize) -> &[u8]
     ensures { λ r. ⌜ (now r ≡ entryOf (now (file .entry)) i)
         × (r .ptr .0 ≡ file .entry .ptr .0) × (r .ptr .1 ≡ entryAt (now (file .entry)) i + file .entry .ptr .1) ⌝ }
 {
-    let Listed::Valid(c) = check(file) else {
-        return &file[..0];
-    };
-    if c <= i {
-        return &file[..0];
-    }
-    let from = get16(file, 1 + 4 * i);
-    let n = get16(file, 3 + 4 * i);
-    &file[from..from + n]
+    let p = place(file, i);
+    let from = p.start;
+    let to = p.end;
+    &file[from..to]
 }

@@ -1,7 +1,8 @@
 -- No second answer fits the contract of a public function of this crate.
-use Prim.Native.Nat.{ℕ}
+use Prim.Native.Nat.{ℕ, _+_}
 use mathlib.Core.List.{List}
 use lib.ListN.{length, getD, drop}
+use Rattle.text.specs.Overlay.{overlay}
 use Rattle.text.specs.One.{One, one}
 use Rattle.names.specs.Layout.{words, nameAt}
 use Rattle.names.specs.Lookup.{licenceOf, exceptionOf, impreciseOf, deprecatedOf, gnuOf, isLater, laterOf, onlyOf}
@@ -38,3 +39,9 @@ name-len-one k = one (length (nameAt k))
 
 name-byte-one : (k i : ℕ) → One (getD (nameAt k) i 0)
 name-byte-one k i = one (getD (nameAt k) i 0)
+
+put-name-one : (k at : ℕ) → One (at + length (nameAt k))
+put-name-one k at = one (at + length (nameAt k))
+
+put-name-buffer-one : (k at : ℕ) (b : List ℕ) → One (overlay at (nameAt k) b)
+put-name-buffer-one k at b = one (overlay at (nameAt k) b)

@@ -1,2 +1,0 @@
-pub mod Digest
-pub mod Unique
