@@ -2,7 +2,7 @@
 use Prim.Native.Nat.{ℕ, _+_, _*_, _^_, _<_}
 use mathlib.Core.Path.{_≡_, sym, ap, _∙_, subst}
 use mathlib.Core.Bool.{Bool, true, false, cond, not, _&&_}
-use mathlib.Core.List.{List, [], _∷_, _++_, map, map-append}
+use mathlib.Core.List.{List, [], _∷_, _++_, map, map-append, append-nil}
 use native.Mathlib.Omega.{arith}
 use native.Mathlib.Numerals.{add-one}
 use lib.ListN.{length, getD, take, set}
@@ -12,9 +12,9 @@ use Rattle.licensee.specs.declared.Terms.{Terms}
 use Rattle.licensee.specs.Terms.{sameTerms, meets}
 use Rattle.masks.specs.Value.{digit}
 use Rattle.minimize.specs.Minimize.{someOf}
-use Rattle.minimize.specs.Posed.{nodeTerms, SmallKind, SmallNodes, termsAt, triples, bits, foundTerms}
-use Rattle.minimize.specs.ListLaws.{found-snoc}
-use Rattle.minimize.specs.TripleLaws.{triples-next, bits-next, bits-below, map-next}
+use Rattle.minimize.specs.Posed.{nodeTerms, SmallKind, SmallNodes, termsAt, triples, bits, foundTerms, foundPlaces}
+use Rattle.minimize.specs.ListLaws.{found-snoc, places-snoc}
+use Rattle.minimize.specs.TripleLaws.{triples-length, triples-next, bits-next, bits-below, map-next}
 
 -- one more node
 small-snoc : (q : List Node) (x : Node) → SmallNodes q → SmallKind (x .kind) → SmallNodes (q ++ (x ∷ []))
@@ -35,28 +35,54 @@ module _ (nodes : List Node) (i : ℕ) (d : Node) (h : i < length nodes) where
   pub small-next : SmallNodes (take i nodes) → SmallKind (getD nodes i d .kind) → SmallNodes (take (i + 1) nodes)
   small-next s k = subst SmallNodes (sym nodes-next) (small-snoc (take i nodes) (getD nodes i d) s k)
 
--- one more licensee listed: it is found where it is wanted and not known
-module _ (f s : List ℕ) (xs : List Terms) (k l a : List ℕ) (i : ℕ) (fs : List Terms) (e : fs ≡ foundTerms f s xs (triples k l a i)) where
-  found-next : foundTerms f s xs (triples k l a (i + 1))
-      ≡ cond (someOf (meets f s (termsAt k l a i)) xs && not (someOf (sameTerms f f (termsAt k l a i)) fs)) (fs ++ (termsAt k l a i ∷ [])) fs
-  unfolding foundTerms
-  found-next =
-      let x = termsAt k l a i in
-      let w = someOf (meets f s x) xs in
-      ap (foundTerms f s xs) (triples-next k l a i)
-      ∙ found-snoc (sameTerms f f) (λ (y : Terms). someOf (meets f s y) xs) [] (triples k l a i) x
-      ∙ ap (λ (q : List Terms). cond (w && not (someOf (sameTerms f f x) q)) (q ++ (x ∷ [])) q) (sym e)
+-- one more licensee listed: it is found where it is wanted and not known, and its place is stored at j in g
+module _
+    (f s : List ℕ) (xs : List Terms) (k l a : List ℕ) (i : ℕ) (fs : List Terms) (e : fs ≡ foundTerms f s xs (triples k l a i))
+    (g : List ℕ) (j : ℕ) (p : take j g ≡ foundPlaces f s xs (triples k l a i))
+  where
+    abbrev x : Terms
+    x = termsAt k l a i
 
-  pub found-new : someOf (meets f s (termsAt k l a i)) xs ≡ true → someOf (sameTerms f f (termsAt k l a i)) fs ≡ false
-      → fs ++ (termsAt k l a i ∷ []) ≡ foundTerms f s xs (triples k l a (i + 1))
-  found-new w n = sym (found-next ∙ rw (w, n))
+    abbrev isWanted : Bool
+    isWanted = someOf (meets f s x) xs
 
-  pub found-known : someOf (meets f s (termsAt k l a i)) xs ≡ true → someOf (sameTerms f f (termsAt k l a i)) fs ≡ true
-      → fs ≡ foundTerms f s xs (triples k l a (i + 1))
-  found-known w n = sym (found-next ∙ rw (w, n))
+    abbrev isKnown : Bool
+    isKnown = someOf (sameTerms f f x) fs
 
-  pub found-unwanted : someOf (meets f s (termsAt k l a i)) xs ≡ false → fs ≡ foundTerms f s xs (triples k l a (i + 1))
-  found-unwanted w = sym (found-next ∙ rw w)
+    abbrev wants : Terms → Bool
+    wants y = someOf (meets f s y) xs
+
+    found-next : foundTerms f s xs (triples k l a (i + 1)) ≡ cond (isWanted && not isKnown) (fs ++ (x ∷ [])) fs
+    unfolding foundTerms
+    found-next =
+        ap (foundTerms f s xs) (triples-next k l a i) ∙ found-snoc (sameTerms f f) wants [] (triples k l a i) x
+        ∙ ap (λ (q : List Terms). cond (isWanted && not (someOf (sameTerms f f x) q)) (q ++ (x ∷ [])) q) (sym e)
+
+    places-next : foundPlaces f s xs (triples k l a (i + 1)) ≡ take j g ++ cond (isWanted && not isKnown) (i ∷ []) []
+    unfolding foundTerms foundPlaces
+    places-next =
+        let n : i ≡ 0 + length (triples k l a i) = omega (arith, triples-length k l a i) in
+        ap (foundPlaces f s xs) (triples-next k l a i) ∙ places-snoc (sameTerms f f) wants [] (triples k l a i) 0 i x n
+        ∙ ap (λ (q : List Terms). foundPlaces f s xs (triples k l a i) ++ cond (isWanted && not (someOf (sameTerms f f x) q)) (i ∷ []) []) (sym e)
+        ∙ ap (λ (q : List ℕ). q ++ cond (isWanted && not isKnown) (i ∷ []) []) (sym p)
+
+    -- the found and their places with it
+    abbrev Next : List Terms → List ℕ → Type 0
+    Next ts ps = (ts ≡ foundTerms f s xs (triples k l a (i + 1))) × (ps ≡ foundPlaces f s xs (triples k l a (i + 1)))
+
+    next-kept : (isWanted && not isKnown) ≡ false → Next fs (take j g)
+    next-kept n = (sym (found-next ∙ rw n), sym (places-next ∙ rw n (append-nil (take j g))))
+
+    pub found-new : isWanted ≡ true → isKnown ≡ false → j < length g → Next (fs ++ (x ∷ [])) (take (j + 1) (set g j i))
+    found-new w n h =
+        let t : take (j + 1) (set g j i) ≡ take j g ++ (i ∷ []) = rw (add-one j) (take-suc-set g j i h) in
+        (sym (found-next ∙ rw (w, n)), t ∙ sym (places-next ∙ rw (w, n)))
+
+    pub found-known : isWanted ≡ true → isKnown ≡ true → Next fs (take j g)
+    found-known w n = next-kept (rw (w, n))
+
+    pub found-unwanted : isWanted ≡ false → Next fs (take j g)
+    found-unwanted w = next-kept (rw w)
 
 -- one more bit
 module _ (p : Terms → Bool) (k l a : List ℕ) (i m : ℕ) (e : m ≡ bits p (triples k l a i)) where

@@ -2,6 +2,7 @@ pub mod ArrayLaws
 pub mod AskLaws
 pub mod ListLaws
 pub mod Minimize
+pub mod PlacesLaws
 pub mod Posed
 pub mod PosedLaws
 pub mod ProblemLaws

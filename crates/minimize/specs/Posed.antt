@@ -22,7 +22,7 @@ use Rattle.minimize.specs.declared.Asked.{Asked}
 use Rattle.minimize.specs.declared.Asked.the-variants as A
 use Rattle.minimize.specs.declared.Posed.{Posed}
 use Rattle.minimize.specs.declared.Posed.the-variants as Q
-use Rattle.minimize.specs.Minimize.{someOf, foundAfter, Problem, refused, posed, ofList}
+use Rattle.minimize.specs.Minimize.{someOf, foundAfter, foundAt, ofList, Problem, refused, posed, poseOf, Places, unplaced, placed, placeOf}
 
 abbrev pub terms : ℕ → ℕ → ℕ → Terms
 terms k l a = record { kinds = k; licence = l; addition = a }
@@ -65,6 +65,10 @@ module _ (f s : List ℕ) where
   unfoldable pub foundTerms : List Terms → List Terms → List Terms
   foundTerms xs ls = foundAfter (sameTerms f f) (λ (l : Terms). someOf (meets f s l) xs) [] ls
 
+  -- and their places among them
+  unfoldable pub foundPlaces : List Terms → List Terms → List ℕ
+  foundPlaces xs ls = foundAt (sameTerms f f) (λ (l : Terms). someOf (meets f s l) xs) [] 0 ls
+
   -- the mask of the licensees fs that satisfy the leaf x
   unfoldable pub maskOf : List Terms → Terms → ℕ
   maskOf fs x = bits (λ (l : Terms). meets f s l x) fs
@@ -84,14 +88,15 @@ Asks r (got q b ts) k l a =
     (r ≡ A.Nodes (length q)) × (length q ≤ 127) × (triples k l a (length q) ≡ map nodeTerms q) × SmallNodes q × Roomy k l a
 Asks r (Grammar.refused x) k l a = r ≡ A.Refused x
 
--- what the code makes of a problem: the codes of n nodes and their masks, by which the evaluator answers which sets satisfy
-abbrev pub Poses : Posed → Problem → List ℕ → List ℕ → Type 0
-Poses p (refused r) c t = p ≡ Q.Refused r
-Poses p (posed k sat) c t =
+-- what the code makes of a problem: the codes of n nodes and their masks, by which the evaluator answers which sets satisfy, and the places of the found
+abbrev pub Poses : Posed → Problem → Places → List ℕ → List ℕ → List ℕ → Type 0
+Poses p (refused r) w c t g = (p ≡ Q.Refused r) × (w ≡ unplaced r)
+Poses p (posed k sat) w c t g =
     (n : ℕ) × (p ≡ Q.Is k n) × (k ≤ 30) × (n ≤ 127) × (length c ≡ 127) × (length t ≡ 127)
-    × ((m : ℕ) → value (take n c) (take n t) m ≡ sat m)
+    × ((m : ℕ) → value (take n c) (take n t) m ≡ sat m) × (w ≡ placed (take k g)) × (length g ≡ 64)
 
 -- the same of any tree whose nodes the numbers are
-abbrev pub PosesAny : Posed → List ℕ → List ℕ → List ℕ → List ℕ → List ℕ → ℕ → List ℕ → Type 0
-PosesAny p f s k l a n t =
-    (u : Tree Leaf) → triples k l a n ≡ map nodeTerms (postfix u) → SmallNodes (postfix u) → size u ≤ 64 → Poses p (ofList f s u (listOf f)) k t
+abbrev pub PosesAny : Posed → List ℕ → List ℕ → List ℕ → List ℕ → List ℕ → ℕ → List ℕ → List ℕ → Type 0
+PosesAny p f s k l a n t g =
+    (u : Tree Leaf) → triples k l a n ≡ map nodeTerms (postfix u) → SmallNodes (postfix u) → size u ≤ 64
+    → Poses p (ofList refused (poseOf f s) f u (listOf f)) (ofList unplaced (placeOf f s) f u (listOf f)) k t g

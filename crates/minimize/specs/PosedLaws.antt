@@ -10,6 +10,7 @@ use native.Mathlib.Nat.{mod-eq-of-lt, two-pow-succ, lt-of-lt-of-le}
 use lib.Dec.{eqb}
 use lib.ListN.{length, take, length-append, length-map, length-replicate}
 use lib.Pow.{pow-mono, pow-pos}
+use lib.Seq.{length-take-le}
 use borrow.Author.Tests.{lt-ltb, le-ltb}
 use Rattle.refusal.specs.declared.Refusal.the-variants.{TooManyRequirements}
 use Rattle.grammar.specs.declared.Leaf.{Leaf}
@@ -29,9 +30,27 @@ use Rattle.licensee.specs.FileLaws.{list-count}
 use Rattle.licensee.specs.TermsLaws.{meets-is, meets-no, equals-is, kinds-small}
 use Rattle.masks.specs.Value.{shares, digit, push, step, run, value}
 use Rattle.minimize.specs.declared.Posed.the-variants as Q
-use Rattle.minimize.specs.Minimize.{someOf, member, onTop, treeOf, wanted, foundOf, satisfied, limited, ofList}
-use Rattle.minimize.specs.Posed.{kindTerms, nodeTerms, SmallNodes, triples, foundTerms, maskOf, PosesAny}
-use Rattle.minimize.specs.ListLaws.{Each, each-imp, some-append, found-each, found-map, digit-lt, bits-map, bits-same, shares-member}
+use Rattle.minimize.specs.Minimize.{
+  someOf,
+  member,
+  onTop,
+  treeOf,
+  wanted,
+  foundOf,
+  placesIn,
+  satisfied,
+  ofList,
+  refused,
+  limited,
+  poseOf,
+  Places,
+  unplaced,
+  placed,
+  fewPlaces,
+  placeOf,
+}
+use Rattle.minimize.specs.Posed.{kindTerms, nodeTerms, SmallNodes, triples, foundTerms, foundPlaces, maskOf, PosesAny}
+use Rattle.minimize.specs.ListLaws.{Each, each-imp, some-append, found-each, found-map, places-map, digit-lt, bits-map, bits-same, shares-member}
 use Rattle.minimize.specs.TripleLaws.{triples-length, triples-kinds, triples-padded}
 
 -- nodes of a tree's side, and licensees, that are small
@@ -88,6 +107,13 @@ module _ (f s : List ℕ) where
   found-is t ls h k =
       found-map (equals f) (wanted f s t) offeredTerms (sameTerms f f) (λ (l : Terms). someOf (meets f s l) (map nodeTerms (postfix t)))
       SmallLicensee (equals-is f) (λ l u. wanted-is t l h u) [] ls tt (small-each ls k)
+
+  pub places-are : (t : Tree Leaf) (ls : List Licensee) → SmallNodes (postfix t) → SmallAll ls
+      → foundPlaces f s (map nodeTerms (postfix t)) (map offeredTerms ls) ≡ placesIn f s t ls
+  unfolding foundPlaces placesIn
+  places-are t ls h k =
+      places-map (equals f) (wanted f s t) offeredTerms (sameTerms f f) (λ (l : Terms). someOf (meets f s l) (map nodeTerms (postfix t)))
+      SmallLicensee (equals-is f) (λ l u. wanted-is t l h u) [] ls 0 tt (small-each ls k)
 
   pub found-small : (t : Tree Leaf) (ls : List Licensee) → SmallAll ls → SmallAll (foundOf f s t ls)
   unfolding foundOf
@@ -221,17 +247,30 @@ accepted-room f a e = subst Room (sym e) (go (listOf f) refl)
         (n, whole (kindsOf ls) (omega arith), whole (licencesOf ls) (omega arith), whole (additionsOf ls) (omega arith))
     go (wrong r) q = (omega arith, refl, refl, refl)
 
--- a valid list a, the numbers of n nodes (xk, xl, xa) and those of the k found (yk, yl, ya)
+-- so many places: 18, or they are the answer
+module _ (ps : List ℕ) (k : ℕ) (many : length ps ≡ k) where
+  places-many : 30 < k → fewPlaces ps ≡ unplaced (TooManyRequirements k)
+  unfolding fewPlaces
+  places-many h = rw (many, lt-ltb 30 k h)
+
+  places-some : k ≤ 30 → fewPlaces ps ≡ placed ps
+  unfolding fewPlaces
+  places-some h = rw (many, le-ltb 30 k h)
+
+-- a valid list a, the numbers of n nodes (xk, xl, xa) and those of the k found (yk, yl, ya), whose places stand in the front of g
 module _
-    (f s : List ℕ) (a : Accepted) (xk xl xa : List ℕ) (n : ℕ) (yk yl ya : List ℕ) (k : ℕ)
+    (f s : List ℕ) (a : Accepted) (xk xl xa : List ℕ) (n : ℕ) (yk yl ya : List ℕ) (k : ℕ) (g : List ℕ)
     (list : a ≡ acceptedOf (listOf f)) (valid : a .outcome ≡ O.Read) (small : SmallList (listOf f))
     (finds : triples yk yl ya k ≡ foundTerms f s (triples xk xl xa n) (triples (a .kinds) (a .licences) (a .additions) (a .count)))
+    (notes : take k g ≡ foundPlaces f s (triples xk xl xa n) (triples (a .kinds) (a .licences) (a .additions) (a .count)))
+    (fits : k ≤ length g)
   where
     -- where the nodes are a tree's
     module _ (t : Tree Leaf) (asked : triples xk xl xa n ≡ map nodeTerms (postfix t)) (places : SmallNodes (postfix t)) where
       record Gathered : Type 0 where
         found : List Licensee
-        problem : ofList f s t (listOf f) ≡ limited f s t found
+        problem : ofList refused (poseOf f s) f t (listOf f) ≡ limited f s t found
+        spots : ofList unplaced (placeOf f s) f t (listOf f) ≡ fewPlaces (take k g)
         below : SmallAll found
         numbers : triples yk yl ya k ≡ map offeredTerms found
         many : k ≡ length found
@@ -243,9 +282,13 @@ module _
           let numbers = finds
           ∙ ap (λ (l : List Terms). foundTerms f s l (triples (a .kinds) (a .licences) (a .additions) (a .count))) asked
           ∙ ap (foundTerms f s (map nodeTerms (postfix t))) (w .3) ∙ found-is f s t ls places (w .2) in
+          let spots = notes
+          ∙ ap (λ (l : List Terms). foundPlaces f s l (triples (a .kinds) (a .licences) (a .additions) (a .count))) asked
+          ∙ ap (foundPlaces f s (map nodeTerms (postfix t))) (w .3) ∙ places-are f s t ls places (w .2) in
           record {
             found = foundOf f s t ls;
-            problem = ap (ofList f s t) (w .1);
+            problem = ap (ofList refused (poseOf f s) f t) (w .1);
+            spots = ap (ofList unplaced (placeOf f s) f t) (w .1) ∙ ap fewPlaces (sym spots);
             below = found-small f s t ls (w .2);
             numbers = numbers;
             many = sym (triples-length yk yl ya k) ∙ ap length numbers ∙ length-map (foundOf f s t ls) offeredTerms;
@@ -263,28 +306,31 @@ module _
           ∙ map-map (maskOf f s (map offeredTerms (gathered .found))) nodeTerms (postfix t)
 
     -- more than 30 are found: 18
-    pub pose-many : (met : List ℕ) → 30 < k → PosesAny (Q.Refused (TooManyRequirements k)) f s xk xl xa n met
+    pub pose-many : (met : List ℕ) → 30 < k → PosesAny (Q.Refused (TooManyRequirements k)) f s xk xl xa n met g
     unfolding limited
     pose-many met h t asked places room =
-        let g = gathered t asked places in
-        let over : 30 < length (g .found) = omega (arith, g .many) in
-        rw (g .problem, lt-ltb 30 (length (g .found)) over, ← g .many) refl
+        let w = gathered t asked places in
+        let over : 30 < length (w .found) = omega (arith, w .many) in
+        rw (w .problem, lt-ltb 30 (length (w .found)) over, ← w .many) (refl, w .spots ∙ places-many (take k g) k (length-take-le k g fits) h)
 
     -- 30 or fewer: the evaluator answers which sets of them satisfy
     pub pose-some : (met : List ℕ) → k ≤ 30 → n ≤ 127 → length xk ≡ 127 → length met ≡ 127
-        → take n met ≡ map (maskOf f s (triples yk yl ya k)) (triples xk xl xa n) → PosesAny (Q.Is k n) f s xk xl xa n met
+        → take n met ≡ map (maskOf f s (triples yk yl ya k)) (triples xk xl xa n) → length g ≡ 64
+        → PosesAny (Q.Is k n) f s xk xl xa n met g
     unfolding limited
-    pose-some met h b c l e t asked places room =
-        let g = gathered t asked places in
-        let few : length (g .found) ≤ 30 = omega (arith, g .many) in
+    pose-some met h b c l e size t asked places room =
+        let w = gathered t asked places in
+        let few : length (w .found) ≤ 30 = omega (arith, w .many) in
         let codes = codes-are t asked places (omega arith) in
         let masks = e ∙ masks-are t asked places in
-        rw (g .problem, le-ltb 30 (length (g .found)) few) (
+        rw (w .problem, le-ltb 30 (length (w .found)) few) (
           n,
-          ap (λ (i : ℕ). Q.Is i n) (g .many),
+          ap (λ (i : ℕ). Q.Is i n) (w .many),
           few,
           b,
           c,
           l,
-          λ m. rw (codes, masks) (value-is f s t (g .found) places (g .below) room m),
+          λ m. rw (codes, masks) (value-is f s t (w .found) places (w .below) room m),
+          w .spots ∙ places-some (take k g) k (length-take-le k g fits) h ∙ ap (λ (i : ℕ). placed (take i g)) (w .many),
+          size,
         )

@@ -1,10 +1,11 @@
 -- The worked text of document 01 that speaks of choice and listing, and questions at the edges of its rules: one table, computed, under one claim.
--- A question is mode, text, list file, and the budget, or the cursor and the budget; a refusal is its number and last column.
+-- A question is mode, text, list file, and the budget, or the cursor and the budget, or neither; a refusal is its number and last column.
 use Prim.Native.Nat.{ℕ, _^_}
 use Prim.Native.String.{String}
 use mathlib.Core.Path.{_≡_, refl}
 use mathlib.Core.List.{List, [], _∷_, _++_, map}
 use Rattle.text.specs.Text.{ascii, begins, same, ends, within, part}
+use Rattle.text.specs.Overlay.{overlay}
 use Rattle.text.specs.Walk.{over, reach, one}
 use Rattle.text.specs.First.{first}
 use Rattle.text.specs.Runs.{refByte, runByte}
@@ -46,30 +47,42 @@ use Rattle.masks.specs.declared.Choice.{Choice}
 use Rattle.masks.specs.declared.Choice.the-variants as C
 use Rattle.masks.specs.declared.Listing.{Listing}
 use Rattle.masks.specs.declared.Listing.the-variants as L
+use Rattle.minimize.specs.declared.Finding.{Finding}
+use Rattle.minimize.specs.declared.Finding.the-variants as F
 use Rattle.minimize.specs.Minimize.{
   someOf,
   foundAfter,
+  foundAt,
   member,
   treeOf,
   wanted,
   foundOf,
+  placesIn,
   satisfied,
   limited,
   problemOf,
   choiceOf,
   listingOf,
+  Places,
+  fewPlaces,
+  placesOf,
+  foundAnswer,
+  foundBuffer,
 }
 
 data Question : Type 0 where
   choice : Mode → List ℕ → List ℕ → ℕ → Question
   listing : Mode → List ℕ → List ℕ → ℕ → ℕ → Question
+  which : Mode → List ℕ → List ℕ → Question
 
--- an answer in document 01's words: a mask, or found with mask and next cursor; paused, or finished, with the cursor; or a refusal
+-- an answer in document 01's words: a mask, or found with mask and next cursor; paused, or finished, with the cursor; how many are found, and what was
+-- a buffer of four 255s; or a refusal
 data Answer : Type 0 where
   mask : ℕ → Answer
   found : ℕ → ℕ → Answer
   paused : ℕ → Answer
   finished : ℕ → Answer
+  places : ℕ → List ℕ → Answer
   no : ℕ → Column → Answer
 
 ofChoice : Choice → Answer
@@ -83,9 +96,17 @@ ofListing (L.Paused n) = paused n
 ofListing (L.Finished n) = finished n
 ofListing (L.Refused r) = no (numberOf r) (columnOf r)
 
+ofFinding : Finding → List ℕ → Answer
+ofFinding (F.Count k) out = places k out
+ofFinding (F.Refused r) out = no (numberOf r) (columnOf r)
+
+ofPlaces : Places → Answer
+ofPlaces p = ofFinding (foundAnswer p) (foundBuffer p (255 ∷ 255 ∷ 255 ∷ 255 ∷ []))
+
 answer : Question → Answer
 answer (choice m s f b) = ofChoice (choiceOf s m f b)
 answer (listing m s f c b) = ofListing (listingOf s m f c b)
+answer (which m s f) = ofPlaces (placesOf s m f)
 
 -- short forms for the table: the choice and the listing of document 01's text and list
 doc : List ℕ
@@ -187,15 +208,25 @@ table =
     ∷ (listing lax any (file thirty) (2 ^ 30) 8, finished (2 ^ 30))
     ∷ (choice lax any (file (ascii "MIT" ∷ thirty)) 0, no 18 (Number 31))
     ∷ (listing lax any (file (ascii "MIT" ∷ thirty)) 0 0, no 18 (Number 31))
+    -- the places of the found: of document 01's text; without those that satisfy no leaf or equal an earlier one; none
+    ∷ (which strict doc three-bodies, places 3 (0 ∷ 1 ∷ 2 ∷ 255 ∷ []))
+    ∷ (which strict doc (file (ascii "0BSD" ∷ ascii "MPL-2.0" ∷ ascii " 0BSD" ∷ ascii "ISC" ∷ [])), places 2 (0 ∷ 3 ∷ 255 ∷ 255 ∷ []))
+    ∷ (which strict (ascii "ISC") (file (ascii "MIT" ∷ ascii "ISC" ∷ ascii " ISC" ∷ [])), places 1 (1 ∷ 255 ∷ 255 ∷ 255 ∷ []))
+    ∷ (which strict doc mit, places 1 (0 ∷ 255 ∷ 255 ∷ 255 ∷ []))
+    ∷ (which strict (ascii "ISC") mit, places 0 (255 ∷ 255 ∷ 255 ∷ 255 ∷ []))
+    ∷ (which strict doc (0 ∷ []), places 0 (255 ∷ 255 ∷ 255 ∷ 255 ∷ []))
+    -- the text's refusals, then 17 (18 is the choice's, by `places-alike`: more of these texts is more than one claim can compute)
+    ∷ (which strict (ascii "MIT +") [], no 5 (Place (span 3 4)))
+    ∷ (which strict (ascii "MIT") [], no 17 (Number 255))
     ∷ []
 
 worked : map (λ (w : Question × Answer). answer (w .0)) table ≡ map (λ (w : Question × Answer). w .1) table
 unfolding
-    table answer ofChoice ofListing word directory joint file doc three-bodies pick go mit alone unmet withAll thirty any modeOf within lowest
+    table answer ofChoice ofListing ofFinding ofPlaces overlay word directory joint file doc three-bodies pick go mit alone unmet withAll thirty any modeOf within lowest
     highest two three four decoded front charWidth firstIll whiteOf whiteWidth pastWhite over reach one first begins same ends part refByte runByte
     seek lookup licenceTexts impreciseTexts licenceOf exceptionOf bytesAt licenceName deprecatedOf gnuOf isLater stem laterOf standsFor longest
     impreciseOf listed exceptions imprecise runEnd refEnd operatorOf refOf documented impreciseAt unknownOf wordOf runOf markOf scanOf checkOf
     walked tokensOf nameStart gnuMove plusMove moveOf tailOf andLevel parseOf nameIn bodyOf at16 offset size placed offerOf entriesFrom contents
-    listOf sameRange satisfies equals has spare minimal examined stopped searched settled chosen Masks.listed someOf foundAfter member treeOf wanted
-    foundOf satisfied limited problemOf choiceOf listingOf
+    listOf sameRange satisfies equals has spare minimal examined stopped searched settled chosen Masks.listed someOf foundAfter foundAt member treeOf wanted
+    foundOf placesIn satisfied limited problemOf choiceOf listingOf fewPlaces placesOf foundAnswer foundBuffer
 worked = refl

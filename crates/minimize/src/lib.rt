@@ -1,5 +1,5 @@
-// The choice and the listing: which of the licensees of an accept list to ship under. Both take text, mode and list, so no caller can hand in broken
-// nodes.
+// The choice and the listing: which of the licensees of an accept list to ship under; and which were found, so that a caller can say what the bits of a
+// mask mean. All take text, mode and list, so no caller can hand in broken nodes.
 ghost use mathlib.Core.Path.{_≡_};
 ghost use mathlib.Core.List.{map};
 ghost use Prim.Native.Nat.{_≤_};
@@ -8,8 +8,8 @@ ghost use Rattle.grammar.specs.Grammar.{parseOf};
 ghost use Rattle.grammar.specs.declared.Outcome.the-variants.{Read};
 ghost use Rattle.licensee.specs.Offers.{listOf};
 ghost use Rattle.licensee.specs.Terms.{sameTerms, meets, acceptedOf, SmallList};
-ghost use Rattle.minimize.specs.Minimize.{someOf, problemOf, choiceOf, listingOf};
-ghost use Rattle.minimize.specs.Posed.{kindTerms, SmallKind, triples, foundTerms, maskOf, askedOf, Asks, Poses, PosesAny};
+ghost use Rattle.minimize.specs.Minimize.{someOf, problemOf, placesOf, choiceOf, listingOf, foundAnswer, foundBuffer};
+ghost use Rattle.minimize.specs.Posed.{kindTerms, SmallKind, triples, foundTerms, foundPlaces, maskOf, askedOf, Asks, Poses, PosesAny};
 use grammar::Kind;
 use grammar::Outcome;
 use licensee::Accepted;
@@ -22,6 +22,12 @@ use refusal::Refusal;
 // What becomes of a text: how many nodes it has, whose numbers are written, or why it has none.
 pub enum Asked {
     Nodes(usize),
+    Refused(Refusal),
+}
+
+// How many licensees are found, whose places in the list are written; or why there are none.
+pub enum Finding {
+    Count(usize),
     Refused(Refusal),
 }
 
@@ -144,7 +150,7 @@ fn is_known(f: &[u8], l: Terms, kinds: &[u8], licences: &[u64], additions: &[u64
     false
 }
 
-// The found licensees: in list order those that satisfy some leaf and equal no earlier found one.
+// The found licensees, and their places in the list: in list order those that satisfy some leaf and equal no earlier found one.
 fn find(
     f: &[u8],
     s: &[u8],
@@ -156,14 +162,19 @@ fn find(
     kinds: &mut [u8; 64],
     licences: &mut [u64; 64],
     additions: &mut [u64; 64],
+    places: &mut [u8; 64],
 ) -> usize
     requires { ⌜ (a .count ≤ 64) × (length (a .kinds) ≡ 64) × (length (a .licences) ≡ 64) × (length (a .additions) ≡ 64)
         × (n ≤ length (now xk)) × (n ≤ length (now xl)) × (n ≤ length (now xa))
-        × (length (now kinds) ≡ 64) × (length (now licences) ≡ 64) × (length (now additions) ≡ 64) ⌝ }
+        × (length (now kinds) ≡ 64) × (length (now licences) ≡ 64) × (length (now additions) ≡ 64) × (length (now places) ≡ 64) ⌝ }
     ensures { λ r. ⌜ (triples (now (kinds .exit)) (now (licences .exit)) (now (additions .exit)) r
         ≡ foundTerms (now (f .entry)) (now (s .entry)) (triples (now (xk .entry)) (now (xl .entry)) (now (xa .entry)) n)
         (triples (a .kinds) (a .licences) (a .additions) (a .count)))
-        × (r ≤ 64) × (length (now (kinds .exit)) ≡ 64) × (length (now (licences .exit)) ≡ 64) × (length (now (additions .exit)) ≡ 64) ⌝ }
+        × (r ≤ 64) × (length (now (kinds .exit)) ≡ 64) × (length (now (licences .exit)) ≡ 64) × (length (now (additions .exit)) ≡ 64)
+        × (take r (now (places .exit))
+        ≡ foundPlaces (now (f .entry)) (now (s .entry)) (triples (now (xk .entry)) (now (xl .entry)) (now (xa .entry)) n)
+        (triples (a .kinds) (a .licences) (a .additions) (a .count)))
+        × (length (now (places .exit)) ≡ 64) ⌝ }
 {
     let count = a.count;
     let mut k = 0;
@@ -174,12 +185,14 @@ fn find(
             licence: a.licences[i],
             addition: a.additions[i],
         };
+        let place = i as u8;
         i += 1;
         if is_wanted(f, l, s, xk, xl, xa, n) {
             if !is_known(f, l, kinds, licences, additions, k) {
                 kinds[k] = l.kinds;
                 licences[k] = l.licence;
                 additions[k] = l.addition;
+                places[k] = place;
                 k += 1;
             }
         }
@@ -260,10 +273,13 @@ fn pose_found(
     additions: &[u64],
     n: usize,
     met: &mut [u64; 127],
+    places: &mut [u8; 64],
 ) -> Posed
     requires { ⌜ (a ≡ acceptedOf (listOf (now file))) × (a .outcome ≡ Read) × SmallList (listOf (now file))
-        × (n ≤ 127) × (length (now kinds) ≡ 127) × (length (now licences) ≡ 127) × (length (now additions) ≡ 127) × (length (now met) ≡ 127) ⌝ }
-    ensures { λ r. ⌜ PosesAny r (now (file .entry)) (now (s .entry)) (now (kinds .entry)) (now (licences .entry)) (now (additions .entry)) n (now (met .exit)) ⌝ }
+        × (n ≤ 127) × (length (now kinds) ≡ 127) × (length (now licences) ≡ 127) × (length (now additions) ≡ 127) × (length (now met) ≡ 127)
+        × (length (now places) ≡ 64) ⌝ }
+    ensures { λ r. ⌜ PosesAny r (now (file .entry)) (now (s .entry)) (now (kinds .entry)) (now (licences .entry)) (now (additions .entry)) n
+        (now (met .exit)) (now (places .exit)) ⌝ }
 {
     let mut yk = [0u8; 64];
     let mut yl = [0u64; 64];
@@ -279,6 +295,7 @@ fn pose_found(
         &mut yk,
         &mut yl,
         &mut ya,
+        places,
     );
     if 30 < k {
         return Posed::Refused(Refusal::TooManyRequirements(k));
@@ -311,29 +328,40 @@ fn pose_read(
     additions: &[u64],
     n: usize,
     met: &mut [u64; 127],
+    places: &mut [u8; 64],
 ) -> Posed
-    requires { ⌜ (n ≤ 127) × (length (now kinds) ≡ 127) × (length (now licences) ≡ 127) × (length (now additions) ≡ 127) × (length (now met) ≡ 127) ⌝ }
-    ensures { λ r. ⌜ PosesAny r (now (file .entry)) (now (s .entry)) (now (kinds .entry)) (now (licences .entry)) (now (additions .entry)) n (now (met .exit)) ⌝ }
+    requires { ⌜ (n ≤ 127) × (length (now kinds) ≡ 127) × (length (now licences) ≡ 127) × (length (now additions) ≡ 127) × (length (now met) ≡ 127)
+        × (length (now places) ≡ 64) ⌝ }
+    ensures { λ r. ⌜ PosesAny r (now (file .entry)) (now (s .entry)) (now (kinds .entry)) (now (licences .entry)) (now (additions .entry)) n
+        (now (met .exit)) (now (places .exit)) ⌝ }
 {
     let t = names::table::table();
     let a = licensee::read(&t, file);
     let outcome = a.outcome;
     match outcome {
         Outcome::Refused(r) => Posed::Refused(r),
-        Outcome::Read => pose_found(s, file, a, kinds, licences, additions, n, met),
+        Outcome::Read => pose_found(s, file, a, kinds, licences, additions, n, met, places),
     }
 }
 
-// The text, then the list, then how many are found.
-fn pose(s: &[u8], m: Mode, file: &[u8], codes: &mut [u8; 127], met: &mut [u64; 127]) -> Posed
-    requires { ⌜ (length (now codes) ≡ 127) × (length (now met) ≡ 127) ⌝ }
-    ensures { λ r. ⌜ Poses r (problemOf (now (s .entry)) m (now (file .entry))) (now (codes .exit)) (now (met .exit)) ⌝ }
+// The text, then the list, then how many are found, and where in it they stand.
+fn pose(
+    s: &[u8],
+    m: Mode,
+    file: &[u8],
+    codes: &mut [u8; 127],
+    met: &mut [u64; 127],
+    places: &mut [u8; 64],
+) -> Posed
+    requires { ⌜ (length (now codes) ≡ 127) × (length (now met) ≡ 127) × (length (now places) ≡ 64) ⌝ }
+    ensures { λ r. ⌜ Poses r (problemOf (now (s .entry)) m (now (file .entry))) (placesOf (now (s .entry)) m (now (file .entry)))
+        (now (codes .exit)) (now (met .exit)) (now (places .exit)) ⌝ }
 {
     let mut licences = [0u64; 127];
     let mut additions = [0u64; 127];
     match ask(s, m, codes, &mut licences, &mut additions) {
         Asked::Refused(r) => Posed::Refused(r),
-        Asked::Nodes(n) => pose_read(s, file, codes, &licences, &additions, n, met),
+        Asked::Nodes(n) => pose_read(s, file, codes, &licences, &additions, n, met, places),
     }
 }
 
@@ -343,7 +371,8 @@ pub fn choice(s: &[u8], m: Mode, file: &[u8], budget: u64) -> Choice
 {
     let mut codes = [0u8; 127];
     let mut met = [0u64; 127];
-    match pose(s, m, file, &mut codes, &mut met) {
+    let mut places = [0u8; 64];
+    match pose(s, m, file, &mut codes, &mut met, &mut places) {
         Posed::Refused(r) => Choice::Refused(r),
         Posed::Is { found, count } => masks::choose(&codes[..count], &met[..count], found, budget),
     }
@@ -355,7 +384,8 @@ pub fn listing(s: &[u8], m: Mode, file: &[u8], cursor: u64, budget: u64) -> List
 {
     let mut codes = [0u8; 127];
     let mut met = [0u64; 127];
-    match pose(s, m, file, &mut codes, &mut met) {
+    let mut places = [0u8; 64];
+    match pose(s, m, file, &mut codes, &mut met, &mut places) {
         Posed::Refused(r) => Listing::Refused(r),
         Posed::Is { found, count } => masks::list(
             &codes[..count],
@@ -364,5 +394,23 @@ pub fn listing(s: &[u8], m: Mode, file: &[u8], cursor: u64, budget: u64) -> List
             cursor,
             budget,
         ),
+    }
+}
+
+// The places in the list of the found licensees, in the front of out: bit j of a mask is the licensee at out[j].
+pub fn found(s: &[u8], m: Mode, file: &[u8], out: &mut [u8; 30]) -> Finding
+    ensures { λ r. ⌜ (r ≡ foundAnswer (placesOf (now (s .entry)) m (now (file .entry))))
+        × (now (out .exit) ≡ foundBuffer (placesOf (now (s .entry)) m (now (file .entry))) (now (out .entry))) ⌝ }
+{
+    let mut codes = [0u8; 127];
+    let mut met = [0u64; 127];
+    let mut places = [0u8; 64];
+    match pose(s, m, file, &mut codes, &mut met, &mut places) {
+        Posed::Refused(r) => Finding::Refused(r),
+        Posed::Is { found, .. } => {
+            let k = found as usize;
+            text::put(out, 0, &places[..k]);
+            Finding::Count(k)
+        }
     }
 }

@@ -4,7 +4,7 @@ use denote.Ref.{now}
 use native.Mathlib.Omega.{arith}
 use borrow.Author.Needs.{needs}
 use lib.Seq.{length-take-le}
-use Rattle.minimize.specs.Minimize.{Problem, problemOf, listedIn, listingOf}
+use Rattle.minimize.specs.Minimize.{Problem, problemOf, Places, placesOf, listedIn, listingOf}
 use Rattle.minimize.specs.ProblemLaws.{Stands, posed-refused, posed-read}
 use Rattle.masks.proofs.list.Reads as list-reads
 use Rattle.minimize.proofs.pose.Reads as pose-reads
@@ -19,19 +19,24 @@ Read = lts.After-known-told2 (pose-reads.Asked, pose-reads.Learnt, list-reads.As
 
 abbrev problem : Read → Problem
 problem c =
-    let a = c .before .before .before .before .before .before .before .before .args in
+    let a = c .before .before .before .before .before .before .before .before .before .args in
     problemOf (now (a .s)) (a .m) (now (a .file))
+
+abbrev places : Read → Places
+places c =
+    let a = c .before .before .before .before .before .before .before .before .before .args in
+    placesOf (now (a .s)) (a .m) (now (a .file))
 
 abbrev StandsAt : Read → Type 0
 StandsAt c =
     let y = c .before .before .before .pose .last in
     let g = c .before .found .given .0 in
-    Stands (y .1 .1 .1 .0) (y .1 .1 .1 .1 .0) (g .0) (g .1 .0) (problem c)
+    Stands (y .1 .1 .1 .0) (y .1 .1 .1 .1 .0) (y .1 .1 .1 .1 .1 .0) (g .0) (g .1 .0) (problem c) (places c)
 
 stands : (c : Read) → StandsAt c
 stands c =
     let p = c .before .before .before .pose in
-    posed-read (p .result) _ _ (problem c) _ _ (p .ensures) (c .before .found .given .1)
+    posed-read (p .result) _ _ _ (places c) (problem c) _ _ (p .ensures) (c .before .found .given .1)
 
 list-requires : tie.Need-list-requires
 list-requires c κs =
@@ -43,8 +48,9 @@ unfolding listingOf
 returns c =
     let o = c .before in
     let p = o .before .before in
-    let a = p .before .before .before .before .before .args in
-    let e = posed-refused (p .pose .result) _ _ (problemOf (now (a .s)) (a .m) (now (a .file))) _ (p .pose .ensures) (o .r .given .1) in
+    let a = p .before .before .before .before .before .before .args in
+    let e = posed-refused (p .pose .result) _ _ _ (placesOf (now (a .s)) (a .m) (now (a .file))) (problemOf (now (a .s)) (a .m) (now (a .file))) _
+    (p .pose .ensures) (o .r .given .1) .0 in
     sym (ap (λ (x : Problem). listedIn x (a .cursor) (a .budget)) e)
 
 returns-2 : tie.Need-returns-2

@@ -27,19 +27,21 @@ read c =
 
 pose-read-requires : tie.Need-pose-read-requires
 pose-read-requires c κs =
-    let told = c .before .before .before .before .before in
+    let told = c .before .before .before .before .before .before in
     let w = read told in
-    (w .few, w .room .0, w .room .1, w .room .2, told .before .before .before .before .before .before .before .before .before .pre .1)
+    let h = told .before .before .before .before .before .before .before .before .before .pre in
+    (w .few, w .room .0, w .room .1, w .room .2, h .1, h .2)
 
 returns : tie.Need-returns
 returns c =
     let o = c .before in
     let p = o .before .before in
     let a = p .before .before .before .before .before .before .args in
-    rw (problem-unread (now (a .s)) (a .m) (now (a .file)) _ _ _ (p .ask .result) (p .ask .ensures) _ (o .r .given .1)) refl
+    let w = problem-unread (now (a .s)) (a .m) (now (a .file)) _ _ _ (p .ask .result) (p .ask .ensures) _ (o .r .given .1) in
+    rw (w .0) (refl, w .1)
 
 returns-2 : tie.Need-returns-2
-returns-2 c = read (c .before .before .before .before .before .before) .problem (c .pose-read .result) _ (c .pose-read .ensures)
+returns-2 c = read (c .before .before .before .before .before .before .before) .problem (c .pose-read .result) _ _ (c .pose-read .ensures)
 
 pub pose-spec : {M : Type 1} → statement M
 pose-spec =

@@ -10,7 +10,7 @@ returns c =
     let o = c .before in
     let m = o .before .before in
     let start = m .before .before .before .before .before .before .before .before in
-    poses-unlisted (now (start .args .file)) (now (start .args .s)) (m .read .result) _ (m .read .ensures .0) (o .outcome .given .1) _ _ _ _ _
+    poses-unlisted (now (start .args .file)) (now (start .args .s)) (m .read .result) _ (m .read .ensures .0) (o .outcome .given .1) _ _ _ _ _ _
 
 pub pose-read-spec : {M : Type 1} → statement M
 pose-read-spec =
