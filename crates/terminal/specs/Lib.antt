@@ -1,0 +1,5 @@
+pub mod Records
+pub mod RecordLaws
+pub mod Answers
+pub mod NameLaws
+pub mod Unique
