@@ -15,21 +15,14 @@ pub(crate) fn list(file: &[u8], out: &mut Out, at: usize) -> usize {
     }
 }
 
-// Where the contents say that the body of entry i starts, of 64 at most.
-fn offset(file: &[u8], i: usize) -> u64 {
-    let from = 1 + 4 * (i % 64);
-    let low = text::byte(file, from) as u64;
-    let high = text::byte(file, from + 1) as u64;
-    low + high * 256
-}
-
 // entry INDEX FILE: part OFFSET BYTES, or empty. No body of a valid file is empty.
 pub(crate) fn entry(i: u64, file: &[u8], out: &mut Out, at: usize) -> usize {
     let body = licensee::entry(file, i as usize);
     if body.len() == 0 {
         return write::bytes(out, at, b"empty");
     }
+    let place = licensee::place(file, i as usize);
     let n = write::bytes(out, at, b"part");
-    let m = write::number(out, n, offset(file, i as usize));
+    let m = write::number(out, n, place.start as u64);
     write::hex(out, m, body)
 }
