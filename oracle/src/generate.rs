@@ -34,15 +34,22 @@ pub fn kind_names() -> Vec<&'static str> {
     KINDS.iter().map(|kind| kind.name).chain(["all"]).collect()
 }
 
+/// Which questions of a kind are made: all, or only random ones.
+#[derive(Clone, Copy)]
+pub enum From {
+    Boundaries,
+    Random,
+}
+
 /// The questions of a kind without end, or of all kinds in turn; none where there is no such kind.
-pub fn questions(kind: &str, seed: u64) -> Option<Box<dyn Iterator<Item = String>>> {
+pub fn questions(kind: &str, seed: u64, from: From) -> Option<Box<dyn Iterator<Item = String>>> {
     if let Some(kind) = KINDS.iter().find(|known| known.name == kind) {
-        return Some(Box::new(stream(kind, seed)));
+        return Some(Box::new(stream(kind, seed, from)));
     }
     if kind != "all" {
         return None;
     }
-    let mut streams: Vec<_> = KINDS.iter().map(|kind| stream(kind, seed)).collect();
+    let mut streams: Vec<_> = KINDS.iter().map(|kind| stream(kind, seed, from)).collect();
     let mut turn = 0;
     Some(Box::new(std::iter::from_fn(move || {
         turn = (turn + 1) % streams.len();
@@ -50,10 +57,14 @@ pub fn questions(kind: &str, seed: u64) -> Option<Box<dyn Iterator<Item = String
     })))
 }
 
-fn stream(kind: &Kind, seed: u64) -> impl Iterator<Item = String> + use<> {
+fn stream(kind: &Kind, seed: u64, from: From) -> impl Iterator<Item = String> + use<> {
     let mut random = Random::new(seed);
     let further = kind.random;
-    (kind.boundaries)().into_iter().chain(std::iter::from_fn(move || Some(further(&mut random))))
+    let first = match from {
+        From::Boundaries => (kind.boundaries)(),
+        From::Random => Vec::new(),
+    };
+    first.into_iter().chain(std::iter::from_fn(move || Some(further(&mut random))))
 }
 
 /// A text by the grammar in the mode, a damaged one, a sequence of tokens, or one of nearly the longest.

@@ -31,6 +31,7 @@ use std::process::ExitCode;
 const USAGE: &str = "usage:
   oracle answer [--from]                       answers the questions on standard input
   oracle generate KIND --seed N --count K      writes K questions of a kind
+  oracle fresh KIND --seed N --count K         writes K random questions of a kind, none of its boundary cases
   oracle exhaustive [N]                        writes parse questions for all sequences of up to N tokens
   oracle measured --seed N --count K           writes K texts that read for the benchmark, and K that do not
   oracle reread ask --seed N --count K         writes questions on K texts that read in LAX
@@ -63,7 +64,12 @@ fn run(arguments: &[&str]) -> io::Result<bool> {
     match *arguments {
         ["answer"] => answer_input(false),
         ["answer", "--from"] => answer_input(true),
-        ["generate", kind, "--seed", seed, "--count", count] => generate(kind, numeric(seed)?, numeric(count)?),
+        ["generate", kind, "--seed", seed, "--count", count] => {
+            generate(kind, numeric(seed)?, numeric(count)?, generate::From::Boundaries)
+        }
+        ["fresh", kind, "--seed", seed, "--count", count] => {
+            generate(kind, numeric(seed)?, numeric(count)?, generate::From::Random)
+        }
         ["exhaustive"] => exhaustive(exhaustive::TOKENS),
         ["exhaustive", tokens] => exhaustive(numeric(tokens)? as usize),
         ["measured", "--seed", seed, "--count", count] => measured(numeric(seed)?, numeric(count)?),
@@ -94,8 +100,8 @@ fn answer_input(marked: bool) -> io::Result<bool> {
     Ok(true)
 }
 
-fn generate(kind: &str, seed: u64, count: u64) -> io::Result<bool> {
-    let Some(questions) = generate::questions(kind, seed) else {
+fn generate(kind: &str, seed: u64, count: u64, from: generate::From) -> io::Result<bool> {
+    let Some(questions) = generate::questions(kind, seed, from) else {
         let kinds = generate::kind_names().join(", ");
         return Err(io::Error::other(format!("no kind `{kind}`; the kinds are {kinds}")));
     };
