@@ -16,7 +16,8 @@ use Rattle.names.specs.Listed.{listed, exceptions}
 use Rattle.names.specs.Lookup.{bytesAt, licenceTexts, licenceName, exceptionName}
 use Rattle.names.specs.Layout.{rows, nameAt}
 use Rattle.names.specs.LayoutLaws.{counts, licence-row, exception-row}
-use Rattle.terminal.specs.Answers.{answeredAs, smallAs, nameIn, nameAs, nameBytes}
+use Rattle.packed.specs.Packed.{answeredAs, smallAs}
+use Rattle.terminal.specs.Answers.{nameIn, nameAs, nameBytes}
 
 module _ (k i : ℕ) where
   pub of-licences : k ≡ 0 → i < length listed → nameAt i ≡ nameIn k i

@@ -8,7 +8,8 @@ use Rattle.grammar.specs.Grammar.{parseOf, answerOf}
 use Rattle.canonical.specs.Canonical as Canonical
 use Rattle.licensee.specs.Offers.{listOf, checkedOf, placeOf}
 use Rattle.minimize.specs.Minimize.{choiceOf, listingOf, placesOf, foundAnswer, foundBuffer}
-use Rattle.terminal.specs.Answers.{stepAs, stepRecord, parseAs, parseCells, canonicalAs, listAs, entryAs, choiceAs, choiceNumber, listingAs, listingNumbers, foundAs, nameIn, nameAs, nameBytes}
+use Rattle.packed.specs.Packed.{parseAs, parseCells}
+use Rattle.terminal.specs.Answers.{stepAs, stepRecord, canonicalAs, listAs, entryAs, choiceAs, choiceNumber, listingAs, listingNumbers, foundAs, nameIn, nameAs, nameBytes}
 
 module _ (s : List ℕ) (mode : ℕ) where
   step-one : (at : ℕ) → One (stepAs (stepOf s (modeOf mode) at))

@@ -10,11 +10,8 @@ ghost use Rattle.grammar.specs.Grammar.{parseOf, answerOf};
 ghost use Rattle.canonical.specs.Canonical as Canonical;
 ghost use Rattle.licensee.specs.Offers.{listOf, checkedOf, placeOf};
 ghost use Rattle.minimize.specs.Minimize.{choiceOf, listingOf, placesOf, foundAnswer, foundBuffer};
-ghost use Rattle.terminal.specs.Answers.{stepAs, stepRecord, parseAs, parseCells, canonicalAs, listAs, entryAs, choiceAs, choiceNumber, listingAs, listingNumbers, foundAs, nameIn, nameAs, nameBytes};
-
-mod cells;
-mod pack;
-
+ghost use Rattle.packed.specs.Packed.{parseAs, parseCells};
+ghost use Rattle.terminal.specs.Answers.{stepAs, stepRecord, canonicalAs, listAs, entryAs, choiceAs, choiceNumber, listingAs, listingNumbers, foundAs, nameIn, nameAs, nameBytes};
 use canonical::Answer;
 use grammar::Outcome;
 use lexer::Step;
@@ -25,6 +22,8 @@ use minimize::Listing;
 use mode::Mode;
 use names::table::EXCEPTIONS;
 use names::table::LICENCES;
+use packed::cells;
+use packed::pack;
 
 // The token at a place, as a record.
 #[no_mangle]

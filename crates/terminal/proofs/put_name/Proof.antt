@@ -4,7 +4,7 @@ use mathlib.Core.Path.{_≡_, sym, ap, _∙_}
 use native.Mathlib.Omega.{arith}
 use denote.Ref.{now}
 use Rattle.names.specs.Layout.{nameAt}
-use Rattle.terminal.specs.Answers.{answeredAs, smallAs}
+use Rattle.packed.specs.Packed.{answeredAs, smallAs}
 use Rattle.terminal.specs.NameLaws.{name-fits, name-small}
 use borrow.Author.Needs.{needs}
 use Rattle.terminal.proofs.put_name.Statement.{statement}

@@ -6,7 +6,7 @@ use native.Mathlib.Omega.{arith}
 use lib.ListN.{length}
 use borrow.Author.Needs.{needs}
 use Rattle.minimize.specs.AskLaws.{ask-fits}
-use Rattle.terminal.specs.RecordLaws.{record-length, Recorded, recorded-start, recorded-on, answers-of, parsed-refused, parsed-small, parsed-whole}
+use Rattle.packed.specs.RecordLaws.{record-length, Recorded, recorded-start, recorded-on, answers-of, parsed-refused, parsed-small, parsed-whole}
 use Rattle.terminal.proofs.tasgilfrem_parse.Statement.{statement}
 use Rattle.terminal.proofs.tasgilfrem_parse.Tie as tie
 

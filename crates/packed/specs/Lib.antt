@@ -1,0 +1,4 @@
+pub mod Records
+pub mod Packed
+pub mod RecordLaws
+pub mod Unique
