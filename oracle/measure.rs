@@ -201,7 +201,14 @@ fn listed_ratio(name: &str, proved: fn(&[u8], &[u8]) -> u64, k: usize, leaves: u
     let text = (0..leaves).map(|leaf| bodies[leaf % k]).collect::<Vec<_>>().join(joint).into_bytes();
     let file = list_file(bodies);
     let masks = if joint == " AND " { 1u32 << k } else { 1 };
-    let (rounds, times) = (if masks > 1 << 12 { 5 } else { ROUNDS }, (1 << 11) / masks + 1);
+    let rounds = if masks > 1 << 16 {
+        3
+    } else if masks > 1 << 12 {
+        5
+    } else {
+        ROUNDS
+    };
+    let times = (1 << 11) / masks + 1;
     let mut both = (Vec::new(), Vec::new());
     for _ in 0..rounds {
         both.0.push(repeated(times, || proved(black_box(&text), black_box(&file))));

@@ -5,5 +5,4 @@ pub mod StepLaws
 pub mod Bound
 pub mod Drafting
 pub mod AnswerLaws
-pub mod Worked
 pub mod Unique

@@ -11,4 +11,3 @@ pub mod Satisfaction
 pub mod Third
 pub mod TripleLaws
 pub mod Unique
-pub mod Worked

@@ -1,1 +1,3 @@
 pub mod Worked
+pub mod Texts
+pub mod Sets
