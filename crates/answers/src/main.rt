@@ -1,4 +1,6 @@
 // Answers questions: a line of standard output for each line of standard input.
+#![tactic(auto)]
+
 mod choices;
 mod fields;
 mod floors;

@@ -1,4 +1,6 @@
 // The canonical text: an expression in the one spelling that every reader of the specification takes.
+#![tactic(auto)]
+
 ghost use Rattle.std.specs.Prelude.{◌≡◌, true, cond, ◌+◌, ◌*◌, ◌<◌, ◌≤◌, length, take, ltb};
 ghost use Rattle.text.specs.Overlay.{overlay};
 ghost use Rattle.names.specs.Listed.{listed, exceptions};

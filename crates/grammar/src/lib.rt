@@ -1,4 +1,6 @@
 // What the readers answer, and what they tell tokens apart by. The definitions of reading are in specs/.
+#![tactic(auto)]
+
 use refusal::Refusal;
 
 // A range of a text's bytes, as a leaf holds it.

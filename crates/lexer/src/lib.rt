@@ -1,4 +1,6 @@
 // From bytes to tokens: a cursor by value whose step hands the next cursor back.
+#![tactic(auto)]
+
 ghost use Rattle.std.specs.Prelude.{◌≡◌, ◌≤◌, ◌||◌, length, drop};
 ghost use Rattle.text.specs.Text.{same};
 ghost use Rattle.text.specs.Runs.{ref_byte, run_byte};

@@ -1,4 +1,6 @@
 // The accept list: its file, its entries as parts of the caller's file, and what a licensee satisfies.
+#![tactic(auto)]
+
 ghost use Rattle.std.specs.Prelude.{◌≡◌, ◌+◌, ◌*◌, ◌<◌, ◌≤◌, length};
 ghost use Rattle.names.specs.Layout.{words};
 ghost use Rattle.lexer.specs.Tokens.{tokens_of};

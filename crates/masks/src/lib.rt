@@ -1,5 +1,7 @@
 // Sets of found licensees as masks: which satisfy, which are chosen, which are listed. A node is a code and, for a leaf, the mask of the licensees
 // that satisfy it.
+#![tactic(auto)]
+
 ghost use Rattle.std.specs.Prelude.{◌≡◌, false, ◌+◌, ◌^◌, ◌<◌, ◌≤◌, length};
 ghost use Rattle.text.specs.First.{first};
 ghost use Rattle.masks.specs.Masks.{spare, minimal, searched, settled, listed, chosen};

@@ -1,5 +1,7 @@
 // The choice and the listing: which of the licensees of an accept list to ship under; and which were found, so that a caller can say what the bits of a
 // mask mean. All take text, mode and list, so no caller can hand in broken nodes.
+#![tactic(auto)]
+
 ghost use Rattle.std.specs.Prelude.{◌≡◌, map, ◌≤◌, length, take};
 ghost use Rattle.grammar.specs.Grammar.{parse_of};
 ghost use Rattle.grammar.specs.declared.Outcome.TheVariants.{Read};

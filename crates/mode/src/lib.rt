@@ -1,4 +1,6 @@
 // The mode in which a text is read: what is allowed beyond the specification.
+#![tactic(auto)]
+
 ghost use Rattle.std.specs.Prelude.{◌≡◌};
 ghost use Rattle.mode.specs.Modes.{strict, lax, mode_of};
 

@@ -1,4 +1,6 @@
 // The names that the terminal knows, and their lookup.
+#![tactic(auto)]
+
 ghost use Rattle.std.specs.Prelude.{◌≡◌, ◌+◌, ◌^◌, ◌<◌, ◌≤◌, get_or, length, drop};
 ghost use Rattle.text.specs.Text.{begins};
 ghost use Rattle.text.specs.Overlay.{overlay};

@@ -1,4 +1,6 @@
 // From tokens to nodes: the stack reader, a token at a time.
+#![tactic(auto)]
+
 ghost use Rattle.std.specs.Prelude.{◌≡◌, ◌-◌, ◌<◌, length};
 ghost use Rattle.names.specs.Layout.{words};
 ghost use Rattle.refusal.specs.Refused.{span};

@@ -1,4 +1,6 @@
 // A text and a cursor in it, held together.
+#![tactic(auto)]
+
 ghost use Rattle.std.specs.Prelude.{◌≡◌};
 ghost use Rattle.lexer.specs.Lex.{step_of};
 

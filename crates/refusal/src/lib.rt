@@ -1,4 +1,6 @@
 // Refusals: one variant for each row of document 01's table, with what its last column says and nothing else.
+#![tactic(auto)]
+
 ghost use Rattle.std.specs.Prelude.{◌≡◌};
 ghost use Rattle.refusal.specs.Refused.{number_of, column_of, set_of};
 

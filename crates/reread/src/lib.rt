@@ -1,1 +1,3 @@
 // Laws only: the canonical text, read again in STRICT.
+#![tactic(auto)]
+

@@ -1,4 +1,6 @@
 // The notice slip of an expression, or what is wrong with it, for a person: ./tasgilfrem asks for it.
+#![tactic(auto)]
+
 mod input;
 mod leaf;
 mod lists;

@@ -1,5 +1,7 @@
 // What C and Rust link: every entry point as an exported function. Each answers one number (specs/Answers), writes only into what it is lent, and
 // nothing there unless it answers.
+#![tactic(auto)]
+
 ghost use Rattle.std.specs.Prelude.{◌≡◌, length, ◌<◌};
 ghost use Rattle.names.specs.Layout.{rows, name_at};
 ghost use Rattle.mode.specs.Modes.{mode_of};

@@ -1,4 +1,6 @@
 // UTF-8: is a text well-formed, which character stands at a place, is it white space.
+#![tactic(auto)]
+
 ghost use Rattle.std.specs.Prelude.{◌≡◌, cond, drop};
 ghost use Rattle.text.specs.Every.{all_of};
 ghost use Rattle.utf8.specs.Utf8.{ascii_byte, lowest, highest, two, three, four, decoded, front, char_width, first_ill, inside_of, white_of, white_width, past_white};

@@ -5,8 +5,8 @@ use Rattle.refusal.specs.Refused.{column_of}
 use Rattle.refusal.proofs.last_column.Statement.{statement}
 use Rattle.refusal.proofs.last_column.Tie as tie
 
-pub last-column-spec : {M : Type 1} → statement M
-last-column-spec =
+pub last_column_spec : {M : Type 1} → statement M
+last_column_spec =
     tie.close
     (tie.spec
     (λ c. search rules)
@@ -30,24 +30,24 @@ last-column-spec =
     (λ c. search rules)
     (λ c. search rules)
     (λ c. search rules)
-    (λ c. sym (ap column_of c.before.r.given.1))
-    (λ c. sym (ap column_of c.enum_told.given.1))
-    (λ c. sym (ap column_of c.before.r2.given.1))
-    (λ c. sym (ap column_of c.before.r3.given.1))
-    (λ c. sym (ap column_of c.before.r4.given.1))
-    (λ c. sym (ap column_of c.before.r5.given.1))
-    (λ c. sym (ap column_of c.before.r6.given.1))
-    (λ c. sym (ap column_of c.before.r7.given.1))
-    (λ c. sym (ap column_of c.before.r8.given.1))
-    (λ c. sym (ap column_of c.before.r9.given.1))
-    (λ c. sym (ap column_of c.before.r10.given.1))
-    (λ c. sym (ap column_of c.before.r11.given.1))
-    (λ c. sym (ap column_of c.before.r12.given.1))
-    (λ c. sym (ap column_of c.before.r13.given.1))
-    (λ c. sym (ap column_of c.before.r14.given.1))
-    (λ c. sym (ap column_of c.before.r15.given.1))
-    (λ c. sym (ap column_of c.before.r16.given.1))
-    (λ c. sym (ap column_of c.before.r17.given.1))
-    (λ c. sym (ap column_of c.enum-told2.given.1))
-    (λ c. sym (ap column_of c.before.r18.given.1))
-    (λ c. sym (ap column_of c.enum-told3.given.1)))
+    (λ c. sym (ap column_of c.before.r-1.given.1))
+    (λ c. sym (ap column_of c.enum_told-1.given.1))
+    (λ c. sym (ap column_of c.before.r-in-InvalidCharacters-1.given.1))
+    (λ c. sym (ap column_of c.before.r-in-UnknownTerm-1.given.1))
+    (λ c. sym (ap column_of c.before.r-in-SeparatedPlus-1.given.1))
+    (λ c. sym (ap column_of c.before.r-in-Unexpected-1.given.1))
+    (λ c. sym (ap column_of c.before.r-in-UnopenedParens-1.given.1))
+    (λ c. sym (ap column_of c.before.r-in-UnclosedParens-1.given.1))
+    (λ c. sym (ap column_of c.before.r-in-Empty-1.given.1))
+    (λ c. sym (ap column_of c.before.r-in-DeprecatedLicenseId-1.given.1))
+    (λ c. sym (ap column_of c.before.r-in-GnuNoPlus-1.given.1))
+    (λ c. sym (ap column_of c.before.r-in-GnuPlusWithSuffix-1.given.1))
+    (λ c. sym (ap column_of c.before.r-in-UnknownLicense-1.given.1))
+    (λ c. sym (ap column_of c.before.r-in-TooManyLeaves-1.given.1))
+    (λ c. sym (ap column_of c.before.r-in-TooDeep-1.given.1))
+    (λ c. sym (ap column_of c.before.r-in-NoRoom-1.given.1))
+    (λ c. sym (ap column_of c.before.r-in-BadList-1.given.1))
+    (λ c. sym (ap column_of c.before.r-in-TooManyRequirements-1.given.1))
+    (λ c. sym (ap column_of c.enum_told-in-RequirementsUnmet-1.given.1))
+    (λ c. sym (ap column_of c.before.r-in-BadCursor-1.given.1))
+    (λ c. sym (ap column_of c.enum_told-in-NoBudget-1.given.1)))

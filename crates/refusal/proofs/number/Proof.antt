@@ -5,8 +5,8 @@ use Rattle.refusal.specs.Refused.{number_of}
 use Rattle.refusal.proofs.number.Statement.{statement}
 use Rattle.refusal.proofs.number.Tie as tie
 
-pub number-spec : {M : Type 1} → statement M
-number-spec =
+pub number_spec : {M : Type 1} → statement M
+number_spec =
     tie.close
     (tie.spec
     (λ c. search rules)
@@ -30,24 +30,24 @@ number-spec =
     (λ c. search rules)
     (λ c. search rules)
     (λ c. search rules)
-    (λ c. sym (ap number_of c.enum_told.given.1))
-    (λ c. sym (ap number_of c.enum-told2.given.1))
-    (λ c. sym (ap number_of c.enum-told3.given.1))
-    (λ c. sym (ap number_of c.enum-told4.given.1))
-    (λ c. sym (ap number_of c.enum-told5.given.1))
-    (λ c. sym (ap number_of c.enum-told6.given.1))
-    (λ c. sym (ap number_of c.enum-told7.given.1))
-    (λ c. sym (ap number_of c.enum-told8.given.1))
-    (λ c. sym (ap number_of c.enum-told9.given.1))
-    (λ c. sym (ap number_of c.enum-told10.given.1))
-    (λ c. sym (ap number_of c.enum-told11.given.1))
-    (λ c. sym (ap number_of c.enum-told12.given.1))
-    (λ c. sym (ap number_of c.enum-told13.given.1))
-    (λ c. sym (ap number_of c.enum-told14.given.1))
-    (λ c. sym (ap number_of c.enum-told15.given.1))
-    (λ c. sym (ap number_of c.enum-told16.given.1))
-    (λ c. sym (ap number_of c.enum-told17.given.1))
-    (λ c. sym (ap number_of c.enum-told18.given.1))
-    (λ c. sym (ap number_of c.enum-told19.given.1))
-    (λ c. sym (ap number_of c.enum-told20.given.1))
-    (λ c. sym (ap number_of c.enum-told21.given.1)))
+    (λ c. sym (ap number_of c.enum_told-1.given.1))
+    (λ c. sym (ap number_of c.enum_told-in-TooLong-1.given.1))
+    (λ c. sym (ap number_of c.enum_told-in-InvalidCharacters-1.given.1))
+    (λ c. sym (ap number_of c.enum_told-in-UnknownTerm-1.given.1))
+    (λ c. sym (ap number_of c.enum_told-in-SeparatedPlus-1.given.1))
+    (λ c. sym (ap number_of c.enum_told-in-Unexpected-1.given.1))
+    (λ c. sym (ap number_of c.enum_told-in-UnopenedParens-1.given.1))
+    (λ c. sym (ap number_of c.enum_told-in-UnclosedParens-1.given.1))
+    (λ c. sym (ap number_of c.enum_told-in-Empty-1.given.1))
+    (λ c. sym (ap number_of c.enum_told-in-DeprecatedLicenseId-1.given.1))
+    (λ c. sym (ap number_of c.enum_told-in-GnuNoPlus-1.given.1))
+    (λ c. sym (ap number_of c.enum_told-in-GnuPlusWithSuffix-1.given.1))
+    (λ c. sym (ap number_of c.enum_told-in-UnknownLicense-1.given.1))
+    (λ c. sym (ap number_of c.enum_told-in-TooManyLeaves-1.given.1))
+    (λ c. sym (ap number_of c.enum_told-in-TooDeep-1.given.1))
+    (λ c. sym (ap number_of c.enum_told-in-NoRoom-1.given.1))
+    (λ c. sym (ap number_of c.enum_told-in-BadList-1.given.1))
+    (λ c. sym (ap number_of c.enum_told-in-TooManyRequirements-1.given.1))
+    (λ c. sym (ap number_of c.enum_told-in-RequirementsUnmet-1.given.1))
+    (λ c. sym (ap number_of c.enum_told-in-BadCursor-1.given.1))
+    (λ c. sym (ap number_of c.enum_told-in-NoBudget-1.given.1)))
