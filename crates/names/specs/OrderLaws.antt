@@ -88,6 +88,7 @@ below_trans (rest e g) (rest f h) = rest (e ∙ f) (below_trans g h)
 
 -- no run stands before itself
 itself : (a : List ℕ) → Below a a → ⊥
+itself [] h = elim h [ ]
 itself (x ∷ xs) (first h) = lt_irrefl x h
 itself (x ∷ xs) (rest e h) = itself xs h
 

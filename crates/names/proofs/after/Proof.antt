@@ -4,13 +4,13 @@ use Rattle.names.specs.Layout.{after_of}
 use Rattle.names.proofs.after.Statement.{statement}
 use Rattle.names.proofs.after.Tie as tie
 
-returns : tie.Need-returns
+returns : tie.Need-returns-then-places-eq0
 unfolding after_of
 returns c = search tests
 
-returns-2 : tie.Need-returns-2
+returns-2 : tie.Need-returns-else-places-eq0
 unfolding after_of
-returns-2 c = search (tests, c.if1.false)
+returns-2 c = search (tests, c.if-places-eq0.false)
 
-pub after-spec : {M : Type 1} → statement M
-after-spec = tie.close (tie.spec (λ c. search rules) returns returns-2)
+pub after_spec : {M : Type 1} → statement M
+after_spec = tie.close (tie.spec (λ c. search rules) returns returns-2)

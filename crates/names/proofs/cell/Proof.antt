@@ -9,13 +9,13 @@ use Rattle.names.specs.LayoutLaws.{words_length, cell_at}
 use Rattle.names.proofs.cell.Statement.{statement}
 use Rattle.names.proofs.cell.Tie as tie
 
-inside : tie.Need-shared-slice-read-w
-inside c = omega (arith, words_length, ap length c.before.requires.0)
+inside : tie.Need-bounds-t-i
+inside c = omega (arith, words_length, ap length c.requires.0)
 
 returns : tie.Need-returns
 returns c =
-    let i = c.before.args.i in
-    ap (λ (l : List ℕ). get_or l (i / 8) 0 / 2 ^ (8 * (i % 8)) % 256) c.before.requires.0 ∙ cell_at i c.before.requires.1
+    let i = c.args.i in
+    ap (λ (l : List ℕ). get_or l (i / 8) 0 / 2 ^ (8 * (i % 8)) % 256) c.requires.0 ∙ cell_at i c.requires.1
 
-pub cell-spec : {M : Type 1} → statement M
-cell-spec = tie.close (tie.spec (λ c. search rules) inside (λ c. search rules) (λ c. search rules) (λ c. search rules) returns)
+pub cell_spec : {M : Type 1} → statement M
+cell_spec = tie.close (tie.spec (λ c. search rules) inside (λ c. search rules) (λ c. search rules) (λ c. search rules) returns)

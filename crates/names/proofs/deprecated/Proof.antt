@@ -6,13 +6,13 @@ use Rattle.names.specs.Partners.{past}
 use Rattle.names.proofs.deprecated.Statement.{statement}
 use Rattle.names.proofs.deprecated.Tie as tie
 
-returns : tie.Need-returns
+returns : tie.Need-returns-then-k-lt-LICENCES
 returns c =
-    let k = c.before.before.before.args.k in
+    let k = c.args.k in
     rw c.mark.ensures (mark_says k (omega counts)).deprecated
 
-returns-2 : tie.Need-returns-2
-returns-2 c = sym (past c.before.before.args.k (omega counts)).deprecated
+returns-2 : tie.Need-returns-else-k-lt-LICENCES
+returns-2 c = sym (past c.args.k (omega counts)).deprecated
 
-pub deprecated-spec : {M : Type 1} → statement M
-deprecated-spec = tie.close (tie.spec (λ c κs. search (rules, counts)) returns returns-2)
+pub deprecated_spec : {M : Type 1} → statement M
+deprecated_spec = tie.close (tie.spec (λ c κs. search (rules, counts)) returns returns-2)

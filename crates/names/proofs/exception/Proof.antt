@@ -12,12 +12,12 @@ use Rattle.names.proofs.exception.Tie as tie
 
 find-requires : tie.Need-find-requires
 find-requires c κs =
-    (c.before.before.requires, omega counts, omega counts, subst Ascending (sym (part_exceptions _ _ listed_count (omega counts))) exceptions_ascend)
+    (c.requires, omega counts, omega counts, subst Ascending (sym (part_exceptions _ _ listed_count (omega counts))) exceptions_ascend)
 
 returns : tie.Need-returns
 unfolding exception_of
 returns c =
-    c.find.ensures ∙ ap (λ (ns : List String). lookup ns c.before.before.before.args.run.now) (part_exceptions _ _ listed_count (omega counts))
+    c.find.ensures ∙ ap (λ (ns : List String). lookup ns c.args.run.now) (part_exceptions _ _ listed_count (omega counts))
 
-pub exception-spec : {M : Type 1} → statement M
-exception-spec = tie.close (tie.spec find-requires returns)
+pub exception_spec : {M : Type 1} → statement M
+exception_spec = tie.close (tie.spec find-requires returns)

@@ -57,58 +57,50 @@ module _ (from to : ℕ) (b : to ≤ length rows) (s : Ascending (texts (part fr
             ahead (texts (part from to)) run (k - from) s inside
             (subst (Below run) (sym (part_at from to k h l)) (less_below run (name_at k) e)) j (omega arith) q
 
-abbrev invariant-loop : tie.invariant-loop
+abbrev invariant-loop : tie.invariant-loop-k
 invariant-loop t run from to k₀ k =
     (from ≤ k) × (k ≤ to) × ((j : ℕ) → j < k - from → bytes_at (texts (part from to)) j ≡ run → ⊥)
 
-abbrev decreases-loop : tie.decreases-loop
+abbrev decreases-loop : tie.decreases-loop-k
 decreases-loop t run from to k₀ k = to - k
 
-loop-holds : tie.Need-loop-init invariant-loop decreases-loop
+loop-holds : tie.Need-loop-k-init invariant-loop decreases-loop
 loop-holds c = (omega arith, omega arith, λ j h e. absurd (omega arith))
 
-compare-requires : tie.Need-compare-requires invariant-loop decreases-loop
-compare-requires c κs = (c.before.before.before.before.before.before.requires.0, omega arith)
+compare-requires : tie.Need-compare-o-requires invariant-loop decreases-loop
+compare-requires c κs = (c.requires.0, omega arith)
 
-returns : tie.Need-returns invariant-loop decreases-loop
+returns : tie.Need-returns-in-Equal invariant-loop decreases-loop
 returns c =
-    let lp = c.before.before.before.before.before.before in
-    let st = lp.before.before.before in
-    hit st.args.from st.args.to st.requires.2 st.requires.3 st.args.run.now lp.loop.k (omega arith) (omega arith)
-    (sym c.before.before.compare.ensures ∙ c.enum_told.given.1)
+    hit c.args.from c.args.to c.requires.2 c.requires.3 c.args.run.now c.loop-k.k (omega arith) (omega arith)
+    (sym c.compare-o.ensures ∙ c.in-Equal.is)
 
-returns-2 : tie.Need-returns-2 invariant-loop decreases-loop
+returns-2 : tie.Need-returns-in-Less invariant-loop decreases-loop
 returns-2 c =
-    let lp = c.before.before.before.before.before.before in
-    let st = lp.before.before.before in
-    over st.args.from st.args.to st.requires.2 st.requires.3 st.args.run.now lp.loop.k (omega arith) (omega arith)
-    (sym c.before.before.compare.ensures ∙ c.enum-told2.given.1) lp.loop.invariant.2
+    over c.args.from c.args.to c.requires.2 c.requires.3 c.args.run.now c.loop-k.k (omega arith) (omega arith)
+    (sym c.compare-o.ensures ∙ c.in-Less.is) c.loop-k.invariant.2
 
-loop-again : tie.Need-loop-preserved invariant-loop decreases-loop
+loop-again : tie.Need-loop-k-preserved-in-Greater invariant-loop decreases-loop
 loop-again c =
-    let lp = c.before.before.before.before.before.before in
-    let st = lp.before.before.before in (
+    (
       omega arith,
       omega arith,
-      on st.args.from st.args.to st.requires.2 st.requires.3 st.args.run.now lp.loop.k (omega arith) (omega arith)
-          (sym c.before.before.compare.ensures ∙ c.enum-told3.given.1),
+      on c.args.from c.args.to c.requires.2 c.requires.3 c.args.run.now c.loop-k.k (omega arith) (omega arith)
+          (sym c.compare-o.ensures ∙ c.in-Greater.is),
     )
 
-loop-again-2 : tie.Need-loop-preserved-2 invariant-loop decreases-loop
+loop-again-2 : tie.Need-loop-k-preserved invariant-loop decreases-loop
 loop-again-2 c =
-    let lp = c.before.before.before in
-    let st = lp.before.before.before in (
+    (
       omega arith,
       omega arith,
-      past st.args.from st.args.to st.requires.2 st.requires.3 st.args.run.now lp.loop.k (omega arith) (omega arith)
-          (λ e. c.if1.false (c.before.len.ensures ∙ e)) lp.loop.invariant.2,
+      past c.args.from c.args.to c.requires.2 c.requires.3 c.args.run.now c.loop-k.k (omega arith) (omega arith)
+          (λ e. c.if-len-run.false (c.len.ensures ∙ e)) c.loop-k.invariant.2,
     )
 
-returns-3 : tie.Need-returns-3 invariant-loop decreases-loop
+returns-3 : tie.Need-returns invariant-loop decreases-loop
 returns-3 c =
-    let lp = c.before in
-    let st = lp.before.before.before in
-    ended st.args.from st.args.to st.requires.2 st.requires.3 st.args.run.now lp.loop.k (omega arith) lp.loop.invariant.2
+    ended c.args.from c.args.to c.requires.2 c.requires.3 c.args.run.now c.loop-k.k (omega arith) c.loop-k.invariant.2
 
 pub find_spec : {M : Type 1} → statement M
 find_spec =
@@ -117,7 +109,7 @@ find_spec =
     invariant-loop
     decreases-loop
     loop-holds
-    (λ c κs. (c.before.before.before.before.requires.0, omega arith))
+    (λ c κs. (c.requires.0, omega arith))
     compare-requires
     (λ c. search rules)
     (λ c. omega arith)

@@ -6,13 +6,13 @@ use Rattle.names.specs.Partners.{past}
 use Rattle.names.proofs.gnu.Statement.{statement}
 use Rattle.names.proofs.gnu.Tie as tie
 
-returns : tie.Need-returns
+returns : tie.Need-returns-then-k-lt-LICENCES
 returns c =
-    let k = c.before.before.before.args.k in
+    let k = c.args.k in
     rw c.mark.ensures (mark_says k (omega counts)).gnu
 
-returns-2 : tie.Need-returns-2
-returns-2 c = sym (past c.before.before.args.k (omega counts)).gnu
+returns-2 : tie.Need-returns-else-k-lt-LICENCES
+returns-2 c = sym (past c.args.k (omega counts)).gnu
 
-pub gnu-spec : {M : Type 1} → statement M
-gnu-spec = tie.close (tie.spec (λ c κs. search (rules, counts)) returns returns-2)
+pub gnu_spec : {M : Type 1} → statement M
+gnu_spec = tie.close (tie.spec (λ c κs. search (rules, counts)) returns returns-2)

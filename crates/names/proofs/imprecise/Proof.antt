@@ -56,41 +56,38 @@ module _ (t : List ℕ) (k : ℕ) (h : first < k) (l : k ≤ length rows) (n : N
       (λ e. let z : i ≡ j = omega arith in ap (λ (m : ℕ). begins (bytes_at imprecise_texts m) t) (sym z) ∙ ap (λ (r : List ℕ). begins r t) (sym name) ∙ b)
       (λ e. n j (omega arith) q) (eq-or-lt_of_le g)
 
-abbrev invariant-loop : tie.invariant-loop
+abbrev invariant-loop : tie.invariant-loop-k
 invariant-loop t s at k₀ k = (first ≤ k) × (k ≤ length rows) × None (drop at s) k
 
-abbrev decreases-loop : tie.decreases-loop
+abbrev decreases-loop : tie.decreases-loop-k
 decreases-loop t s at k₀ k = k
 
-loop-holds : tie.Need-loop-init invariant-loop decreases-loop
+loop-holds : tie.Need-loop-k-init invariant-loop decreases-loop
 loop-holds c = (omega counts, omega counts, λ j g q. absurd (omega counts))
 
-returns : tie.Need-returns invariant-loop decreases-loop
+returns : tie.Need-returns-then-stands invariant-loop decreases-loop
 returns c =
-    let lp = c.before.before.before.before.before in
-    let a = lp.before.before.before.args in
-    hit (drop a.at a.s.now) lp.loop.k (omega counts) lp.loop.invariant.1 lp.loop.invariant.2
-    (sym c.before.before.before.stands.ensures ∙ c.before.before.if1.true) c.before.mark.result c.len.result
-    c.before.mark.ensures c.len.ensures
+    let a = c.args in
+    hit (drop a.at a.s.now) c.loop-k.k (omega counts) c.loop-k.invariant.1 c.loop-k.invariant.2
+    (sym c.stands.ensures ∙ c.if-stands.true) c.mark.result c.len.result
+    c.mark.ensures c.len.ensures
 
-loop-again : tie.Need-loop-preserved invariant-loop decreases-loop
+loop-again : tie.Need-loop-k-preserved invariant-loop decreases-loop
 loop-again c =
-    let lp = c.before.before.before in
-    let a = lp.before.before.before.args in (
+    let a = c.args in (
       omega counts,
       omega arith,
-      down (drop a.at a.s.now) lp.loop.k (omega counts) lp.loop.invariant.1 lp.loop.invariant.2
-          (sym c.before.stands.ensures ∙ c.if1.false),
+      down (drop a.at a.s.now) c.loop-k.k (omega counts) c.loop-k.invariant.1 c.loop-k.invariant.2
+          (sym c.stands.ensures ∙ c.if-stands.false),
     )
 
-returns-2 : tie.Need-returns-2 invariant-loop decreases-loop
+returns-2 : tie.Need-returns invariant-loop decreases-loop
 returns-2 c =
-    let lp = c.before in
-    let a = lp.before.before.before.args in
-    sym (longest_none (drop a.at a.s.now) (λ j. lp.loop.invariant.2 j (omega counts)))
+    let a = c.args in
+    sym (longest_none (drop a.at a.s.now) (λ j. c.loop-k.invariant.2 j (omega counts)))
 
-pub imprecise-spec : {M : Type 1} → statement M
-imprecise-spec =
+pub imprecise_spec : {M : Type 1} → statement M
+imprecise_spec =
     tie.close
     (tie.spec
     invariant-loop

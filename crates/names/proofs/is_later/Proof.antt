@@ -6,13 +6,13 @@ use Rattle.names.specs.Partners.{past}
 use Rattle.names.proofs.is_later.Statement.{statement}
 use Rattle.names.proofs.is_later.Tie as tie
 
-returns : tie.Need-returns
+returns : tie.Need-returns-then-k-lt-LICENCES
 returns c =
-    let k = c.before.before.before.args.k in
+    let k = c.args.k in
     rw c.mark.ensures (mark_says k (omega counts)).or_later
 
-returns-2 : tie.Need-returns-2
-returns-2 c = sym (past c.before.before.args.k (omega counts)).later
+returns-2 : tie.Need-returns-else-k-lt-LICENCES
+returns-2 c = sym (past c.args.k (omega counts)).later
 
-pub is-later-spec : {M : Type 1} → statement M
-is-later-spec = tie.close (tie.spec (λ c κs. search (rules, counts)) returns returns-2)
+pub is_later_spec : {M : Type 1} → statement M
+is_later_spec = tie.close (tie.spec (λ c κs. search (rules, counts)) returns returns-2)

@@ -8,18 +8,18 @@ use Rattle.names.specs.Partners.{past}
 use Rattle.names.proofs.later.Statement.{statement}
 use Rattle.names.proofs.later.Tie as tie
 
-returns : tie.Need-returns
+returns : tie.Need-returns-then-k-lt-LICENCES
 returns c =
-    let k = c.before.before.before.before.args.k in
+    let k = c.args.k in
     c.after.ensures
-    ∙ ap (λ (m : ℕ). after_of k (m / 8 % 16)) c.before.mark.ensures
+    ∙ ap (λ (m : ℕ). after_of k (m / 8 % 16)) c.mark.ensures
     ∙ (mark_says k (omega counts)).later
 
-returns-2 : tie.Need-returns-2
-returns-2 c = sym (past c.before.before.args.k (omega counts)).no-later
+returns-2 : tie.Need-returns-else-k-lt-LICENCES
+returns-2 c = sym (past c.args.k (omega counts)).no_later
 
-pub later-spec : {M : Type 1} → statement M
-later-spec =
+pub later_spec : {M : Type 1} → statement M
+later_spec =
     tie.close
     (tie.spec
     (λ c κs. search (rules, counts))

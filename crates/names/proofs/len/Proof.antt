@@ -6,7 +6,7 @@ use Rattle.names.proofs.len.Statement.{statement}
 use Rattle.names.proofs.len.Tie as tie
 
 returns : tie.Need-returns
-returns c = let st = c.before.before in c.cell.ensures ∙ length_at st.args.k st.requires.1
+returns c = c.cell.ensures ∙ length_at c.args.k c.requires.1
 
 pub len_spec : {M : Type 1} → statement M
 len_spec =

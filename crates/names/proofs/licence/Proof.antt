@@ -12,12 +12,12 @@ use Rattle.names.proofs.licence.Tie as tie
 
 find-requires : tie.Need-find-requires
 find-requires c κs =
-    (c.before.before.requires, omega counts, omega counts, subst Ascending (sym (part_licences _ listed_count)) licences_ascend)
+    (c.requires, omega counts, omega counts, subst Ascending (sym (part_licences _ listed_count)) licences_ascend)
 
 returns : tie.Need-returns
 unfolding licence_of
 returns c =
-    c.find.ensures ∙ ap (λ (ns : List String). lookup ns c.before.before.before.args.run.now) (part_licences _ listed_count)
+    c.find.ensures ∙ ap (λ (ns : List String). lookup ns c.args.run.now) (part_licences _ listed_count)
 
-pub licence-spec : {M : Type 1} → statement M
-licence-spec = tie.close (tie.spec find-requires returns)
+pub licence_spec : {M : Type 1} → statement M
+licence_spec = tie.close (tie.spec find-requires returns)

@@ -6,7 +6,7 @@ use Rattle.names.proofs.mark.Statement.{statement}
 use Rattle.names.proofs.mark.Tie as tie
 
 returns : tie.Need-returns
-returns c = let st = c.before.before.before in omega (arith, mark_at_lem st.args.k st.requires.1)
+returns c = omega (arith, mark_at_lem c.args.k c.requires.1)
 
 pub mark_spec : {M : Type 1} → statement M
 mark_spec =

@@ -9,45 +9,40 @@ use Rattle.names.specs.LayoutLaws.{body_fits, byte_at}
 use Rattle.names.proofs.put_name.Statement.{statement}
 use Rattle.names.proofs.put_name.Tie as tie
 
-abbrev invariant-loop : tie.invariant-loop
+abbrev invariant-loop : tie.invariant-loop-i
 invariant-loop t k out₀ at from n i₀ out i = Writing at (name_at k) out₀ out i
 
-abbrev decreases-loop : tie.decreases-loop
+abbrev decreases-loop : tie.decreases-loop-i
 decreases-loop t k out₀ at from n i₀ out i = n - i
 
-loop-holds : tie.Need-loop-init invariant-loop decreases-loop
+loop-holds : tie.Need-loop-i-init invariant-loop decreases-loop
 loop-holds c =
-    let a = c.before.before.before.before.args in
+    let a = c.args in
     writing_start a.at (name_at a.k) a.out.now
 
-add-cell : tie.Need-overflow-add-cell invariant-loop decreases-loop
+add-cell : tie.Need-overflow_add-from invariant-loop decreases-loop
 add-cell c =
-    let st = c.before.before.before.before.before.before in
-    omega (arith, body_fits st.args.k st.requires.1)
+    omega (arith, body_fits c.args.k c.requires.1)
 
 cell-requires : tie.Need-cell-requires invariant-loop decreases-loop
 cell-requires c κs =
-    let st = c.before.before.before.before.before.before in
-    (st.requires.0, omega (arith, body_fits st.args.k st.requires.1))
+    (c.requires.0, omega (arith, body_fits c.args.k c.requires.1))
 
-loop-again : tie.Need-loop-preserved invariant-loop decreases-loop
+loop-again : tie.Need-loop-i-preserved invariant-loop decreases-loop
 loop-again c =
-    let lp = c.before.before in
-    let st = lp.before.before.before.before.before in
-    let s = lp.before.before.start in
-    writing_on st.args.at (name_at st.args.k) st.args.out.now lp.loop.out lp.loop.i _ st.requires.2 (omega arith)
-    (c.cell.ensures ∙ byte_at st.args.k st.requires.1 s.result lp.loop.i s.ensures (omega arith)) lp.loop.invariant
+    let s = c.start-from in
+    writing_on c.args.at (name_at c.args.k) c.args.out.now c.loop-i.out c.loop-i.i _ c.requires.2 (omega arith)
+    (c.cell.ensures ∙ byte_at c.args.k c.requires.1 s.result c.loop-i.i s.ensures (omega arith)) c.loop-i.invariant
 
 returns : tie.Need-returns invariant-loop decreases-loop
 returns c =
-    let lp = c.before in
-    let st = lp.before.before.before.before.before in (
-      ap (λ (n : ℕ). st.args.at + n) lp.before.len.ensures,
-      writing_end st.args.at (name_at st.args.k) st.args.out.now lp.loop.out lp.loop.i (omega arith) lp.loop.invariant,
+    (
+      ap (λ (n : ℕ). c.args.at + n) c.len-n.ensures,
+      writing_end c.args.at (name_at c.args.k) c.args.out.now c.loop-i.out c.loop-i.i (omega arith) c.loop-i.invariant,
     )
 
-pub put-name-spec : {M : Type 1} → statement M
-put-name-spec =
+pub put_name_spec : {M : Type 1} → statement M
+put_name_spec =
     tie.close
     (tie.spec
     invariant-loop
@@ -58,10 +53,10 @@ put-name-spec =
     add-cell
     cell-requires
     (λ c. search rules)
-    (λ c. omega (arith, c.before.before.loop.invariant.2))
+    (λ c. omega (arith, c.loop-i.invariant.2))
     (λ c. search rules)
     (λ c. omega arith)
     loop-again
     (λ c. search rules)
-    (λ c. c.before.loop.invariant.2)
+    (λ c. c.loop-i.invariant.2)
     returns)

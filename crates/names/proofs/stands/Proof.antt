@@ -11,65 +11,57 @@ use Rattle.names.specs.LayoutLaws.{body_fits, byte_at}
 use Rattle.names.proofs.stands.Statement.{statement}
 use Rattle.names.proofs.stands.Tie as tie
 
-abbrev invariant-loop : tie.invariant-loop
+abbrev invariant-loop : tie.invariant-loop-i
 invariant-loop t k s at from n i₀ j₀ i j = (i ≤ length (name_at k)) × (begins (name_at k) (drop at s) ≡ begins (drop i (name_at k)) (drop j s))
 
-abbrev decreases-loop : tie.decreases-loop
+abbrev decreases-loop : tie.decreases-loop-i
 decreases-loop t k s at from n i₀ j₀ i j = n - i
 
-loop-holds : tie.Need-loop-init invariant-loop decreases-loop
+loop-holds : tie.Need-loop-i-init invariant-loop decreases-loop
 loop-holds c = (omega arith, refl)
 
-returns : tie.Need-returns invariant-loop decreases-loop
+returns : tie.Need-returns-then-s-j invariant-loop decreases-loop
 returns c =
-    let lp = c.before.before in
-    let a = lp.before.before.before.before.before.args in
-    sym (lp.loop.invariant.1 ∙ begins_short (name_at a.k) a.s.now lp.loop.i lp.loop.j (omega arith) (omega arith))
+    let a = c.args in
+    sym (c.loop-i.invariant.1 ∙ begins_short (name_at a.k) a.s.now c.loop-i.i c.loop-i.j (omega arith) (omega arith))
 
-add-cell : tie.Need-overflow-add-cell invariant-loop decreases-loop
+add-cell : tie.Need-overflow_add-from invariant-loop decreases-loop
 add-cell c =
-    let st = c.before.before.before.before.before.before.before in
-    omega (arith, body_fits st.args.k st.requires.1)
+    omega (arith, body_fits c.args.k c.requires.1)
 
 cell-requires : tie.Need-cell-requires invariant-loop decreases-loop
 cell-requires c κs =
-    let st = c.before.before.before.before.before.before.before in
-    (st.requires.0, omega (arith, body_fits st.args.k st.requires.1))
+    (c.requires.0, omega (arith, body_fits c.args.k c.requires.1))
 
 -- the byte that was read from the table
 read : (c : tie.After-cell invariant-loop decreases-loop) →
-    c.cell.result ≡ get_or (name_at c.before.before.before.before.before.before.before.before.args.k) c.before.before.before.loop.i 0
+    c.cell.result ≡ get_or (name_at c.args.k) c.loop-i.i 0
 read c =
-    let lp = c.before.before.before in
-    let st = lp.before.before.before.before.before in
-    let s = lp.before.before.start in
-    c.cell.ensures ∙ byte_at st.args.k st.requires.1 s.result lp.loop.i s.ensures (omega arith)
+    let s = c.start-from in
+    c.cell.ensures ∙ byte_at c.args.k c.requires.1 s.result c.loop-i.i s.ensures (omega arith)
 
-returns-2 : tie.Need-returns-2 invariant-loop decreases-loop
+returns-2 : tie.Need-returns-then-cell-s invariant-loop decreases-loop
 returns-2 c =
-    let lp = c.before.before.before.before.before in
-    let a = lp.before.before.before.before.before.args in
+    let a = c.args in
     sym
-    (lp.loop.invariant.1
-    ∙ begins_not (name_at a.k) a.s.now lp.loop.i lp.loop.j (omega arith) (omega arith) (λ e. c.if2.true (read c.before.before ∙ e)))
+    (c.loop-i.invariant.1
+    ∙ begins_not (name_at a.k) a.s.now c.loop-i.i c.loop-i.j (omega arith) (omega arith) (λ e. c.if-cell-s.true (read c.before.before ∙ e)))
 
-loop-again : tie.Need-loop-preserved invariant-loop decreases-loop
+loop-again : tie.Need-loop-i-preserved invariant-loop decreases-loop
 loop-again c =
-    let lp = c.before.before.before.before.before in
-    let a = lp.before.before.before.before.before.args in (
+    let a = c.args in (
       omega arith,
-      lp.loop.invariant.1
-          ∙ begins_more (name_at a.k) a.s.now lp.loop.i lp.loop.j (omega arith) (omega arith) (sym (read c.before.before) ∙ c.if2.false),
+      c.loop-i.invariant.1
+          ∙ begins_more (name_at a.k) a.s.now c.loop-i.i c.loop-i.j (omega arith) (omega arith) (sym (read c.before.before) ∙ c.if-cell-s.false),
     )
 
-returns-3 : tie.Need-returns-3 invariant-loop decreases-loop
+returns-3 : tie.Need-returns invariant-loop decreases-loop
 returns-3 c =
-    let lp = c.before in
-    let a = lp.before.before.before.before.before.args in
-    sym (lp.loop.invariant.1 ∙ begins_done (name_at a.k) a.s.now lp.loop.i lp.loop.j (omega arith))
+    let a = c.args in
+    sym (c.loop-i.invariant.1 ∙ begins_done (name_at a.k) a.s.now c.loop-i.i c.loop-i.j (omega arith))
 
-pub stands-spec : {M : Type 1} → statement M
-stands-spec =
+pub stands_spec : {M : Type 1} → statement M
+stands_spec =
     tie.close
     (tie.spec
     invariant-loop

@@ -6,7 +6,7 @@ use Rattle.names.proofs.start.Statement.{statement}
 use Rattle.names.proofs.start.Tie as tie
 
 returns : tie.Need-returns
-returns c = let st = c.before.before.before in omega (arith, start_at_lem st.args.k st.requires.1)
+returns c = omega (arith, start_at_lem c.args.k c.requires.1)
 
 pub start_spec : {M : Type 1} → statement M
 start_spec =

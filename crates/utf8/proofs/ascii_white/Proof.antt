@@ -4,11 +4,11 @@ use Rattle.text.specs.Tests.{cond_true, cond_false}
 use Rattle.utf8.proofs.ascii_white.Statement.{statement}
 use Rattle.utf8.proofs.ascii_white.Tie as tie
 
-returns : tie.Need-returns
-returns c = sym (cond_true _ 1 0 (sym c.before.is_white.ensures ∙ c.if1.true))
+returns : tie.Need-returns-then-is_white
+returns c = sym (cond_true _ 1 0 (sym c.is_white.ensures ∙ c.if-is_white.true))
 
-returns-2 : tie.Need-returns-2
-returns-2 c = sym (cond_false _ 1 0 (sym c.before.is_white.ensures ∙ c.if1.false))
+returns-2 : tie.Need-returns-else-is_white
+returns-2 c = sym (cond_false _ 1 0 (sym c.is_white.ensures ∙ c.if-is_white.false))
 
-pub ascii-white-spec : {M : Type 1} → statement M
-ascii-white-spec = tie.close (tie.spec (λ c κs. search rules) returns returns-2)
+pub ascii_white_spec : {M : Type 1} → statement M
+ascii_white_spec = tie.close (tie.spec (λ c κs. search rules) returns returns-2)

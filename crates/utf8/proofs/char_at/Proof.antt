@@ -6,26 +6,26 @@ use Rattle.utf8.specs.Laws.{front_end, front_at, front_ascii}
 use Rattle.utf8.proofs.char_at.Statement.{statement}
 use Rattle.utf8.proofs.char_at.Tie as tie
 
-returns : tie.Need-returns
-returns c = let a = c.before.before.args in sym (front_end a.s.now a.at c.if1.true)
+returns : tie.Need-returns-then-s-at
+returns c = let a = c.args in sym (front_end a.s.now a.at c.if-s-at.true)
 
-returns-2 : tie.Need-returns-2
+returns-2 : tie.Need-returns-then-a-le127
 returns-2 c =
-    let a = c.before.before.before.before.args in
-    sym (front_ascii a.s.now a.at (omega arith) c.if2.true)
+    let a = c.args in
+    sym (front_ascii a.s.now a.at (omega arith) c.if-a-le127.true)
 
-returns-3 : tie.Need-returns-3
+returns-3 : tie.Need-returns
 returns-3 c =
-    let a = c.before.before.before.before.before.before.before.before.args in
+    let a = c.args in
     rw (
       front_at a.s.now a.at (omega arith),
-      ← c.before.before.before.byte.ensures,
-      ← c.before.before.byte2.ensures,
-      ← c.before.byte3.ensures,
+      ← c.byte.ensures,
+      ← c.byte-2.ensures,
+      ← c.byte-3.ensures,
     ) c.decode.ensures
 
-pub char-at-spec : {M : Type 1} → statement M
-char-at-spec =
+pub char_at_spec : {M : Type 1} → statement M
+char_at_spec =
     tie.close
     (tie.spec
     returns

@@ -6,39 +6,39 @@ use Rattle.utf8.specs.Utf8.{decoded}
 use Rattle.utf8.proofs.decode.Statement.{statement}
 use Rattle.utf8.proofs.decode.Tie as tie
 
-returns : tie.Need-returns
+returns : tie.Need-returns-then-a-le127
 unfolding decoded
 returns c = search tests
 
-returns-2 : tie.Need-returns-2
+returns-2 : tie.Need-returns-then-is_two
 unfolding decoded
-returns-2 c = search (tests, ← c.before.is-two.ensures)
+returns-2 c = search (tests, ← c.is_two.ensures)
 
-returns-3 : tie.Need-returns-3
+returns-3 : tie.Need-returns-then-is_three
 unfolding decoded
 returns-3 c =
     simp (
-      lt-leb _ _ c.before.before.before.before.if1.false,
-      sym c.before.before.before.is-two.ensures ∙ c.before.before.if2.false,
-      sym c.before.is-three.ensures ∙ c.if3.true,
+      lt-leb _ _ c.if-a-le127.false,
+      sym c.is_two.ensures ∙ c.if-is_two.false,
+      sym c.is_three.ensures ∙ c.if-is_three.true,
     )
 
-returns-4 : tie.Need-returns-4
+returns-4 : tie.Need-returns-then-is_four
 unfolding decoded
 returns-4 c =
     simp (
-      lt-leb _ _ c.before.before.before.before.before.before.if1.false,
-      sym c.before.before.before.before.before.is-two.ensures ∙ c.before.before.before.before.if2.false,
-      sym c.before.before.before.is-three.ensures ∙ c.before.before.if3.false,
-      sym c.before.is-four.ensures ∙ c.if4.true,
+      lt-leb _ _ c.if-a-le127.false,
+      sym c.is_two.ensures ∙ c.if-is_two.false,
+      sym c.is_three.ensures ∙ c.if-is_three.false,
+      sym c.is_four.ensures ∙ c.if-is_four.true,
     )
 
-returns-5 : tie.Need-returns-5
+returns-5 : tie.Need-returns
 unfolding decoded
 returns-5 c = search tests
 
-pub decode-spec : {M : Type 1} → statement M
-decode-spec =
+pub decode_spec : {M : Type 1} → statement M
+decode_spec =
     tie.close
     (tie.spec
     returns

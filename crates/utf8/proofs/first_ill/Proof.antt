@@ -5,8 +5,8 @@ use Rattle.utf8.specs.Laws.{ascii_well}
 use Rattle.utf8.proofs.first_ill.Statement.{statement}
 use Rattle.utf8.proofs.first_ill.Tie as tie
 
-returns : tie.Need-returns
-returns c = sym (ascii_well c.before.before.before.args.s.now (cc))
+returns : tie.Need-returns-then-is_ascii
+returns c = sym (ascii_well c.args.s.now (cc))
 
-pub first-ill-spec : {M : Type 1} → statement M
-first-ill-spec = tie.close (tie.spec (λ c κs. search rules) (λ c κs. search rules) returns (λ c. search rules))
+pub first_ill_spec : {M : Type 1} → statement M
+first_ill_spec = tie.close (tie.spec (λ c κs. search rules) (λ c κs. search rules) returns (λ c. search rules))

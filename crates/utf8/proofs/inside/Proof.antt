@@ -5,7 +5,7 @@ use Rattle.utf8.proofs.inside.Tie as tie
 
 returns : tie.Need-returns
 unfolding inside_of
-returns c = rw (← c.before.byte.ensures) c.between.ensures
+returns c = rw (← c.byte.ensures) c.between.ensures
 
-pub inside-spec : {M : Type 1} → statement M
-inside-spec = tie.close (tie.spec (λ c κs. search rules) (λ c κs. search rules) returns)
+pub inside_spec : {M : Type 1} → statement M
+inside_spec = tie.close (tie.spec (λ c κs. search rules) (λ c κs. search rules) returns)

@@ -10,25 +10,25 @@ use Rattle.utf8.specs.Utf8.{ascii_byte}
 use Rattle.utf8.proofs.is_ascii.Statement.{statement}
 use Rattle.utf8.proofs.is_ascii.Tie as tie
 
-abbrev invariant-loop : tie.invariant-loop
+abbrev invariant-loop : tie.invariant-loop-i
 invariant-loop s ok₀ i₀ ok i = all_of ascii_byte s ≡ (ok && all_of ascii_byte (drop i s))
 
-abbrev decreases-loop : tie.decreases-loop
+abbrev decreases-loop : tie.decreases-loop-i
 decreases-loop s ok₀ i₀ ok i = length s - i
 
-loop-holds : tie.Need-loop-init invariant-loop decreases-loop
+loop-holds : tie.Need-loop-i-init invariant-loop decreases-loop
 loop-holds c = refl
 
-loop-again : tie.Need-loop-preserved invariant-loop decreases-loop
+loop-again : tie.Need-loop-i-preserved invariant-loop decreases-loop
 loop-again c =
-    let l = c.before.before.loop in
-    l.invariant ∙ all_on ascii_byte c.before.before.before.args.s.now l.ok l.i (omega arith)
+    let l = c.loop-i in
+    l.invariant ∙ all_on ascii_byte c.args.s.now l.ok l.i (omega arith)
 
 returns : tie.Need-returns invariant-loop decreases-loop
 returns c =
-    let l = c.before.loop in
-    sym (l.invariant ∙ all_end ascii_byte c.before.before.args.s.now l.ok l.i (omega arith))
+    let l = c.loop-i in
+    sym (l.invariant ∙ all_end ascii_byte c.args.s.now l.ok l.i (omega arith))
 
-pub is-ascii-spec : {M : Type 1} → statement M
-is-ascii-spec =
+pub is_ascii_spec : {M : Type 1} → statement M
+is_ascii_spec =
     tie.close (tie.spec invariant-loop decreases-loop loop-holds (λ c. search rules) (λ c. search rules) (λ c. search rules) loop-again returns)

@@ -7,8 +7,8 @@ returns : tie.Need-returns
 unfolding four
 returns c = cc
 
-pub is-four-spec : {M : Type 1} → statement M
-is-four-spec =
+pub is_four_spec : {M : Type 1} → statement M
+is_four_spec =
     tie.close
     (tie.spec
     (λ c κs. search rules)

@@ -7,8 +7,8 @@ returns : tie.Need-returns
 unfolding three
 returns c = cc
 
-pub is-three-spec : {M : Type 1} → statement M
-is-three-spec =
+pub is_three_spec : {M : Type 1} → statement M
+is_three_spec =
     tie.close
     (tie.spec
     (λ c κs. search rules)

@@ -5,7 +5,7 @@ use Rattle.utf8.proofs.is_two.Tie as tie
 
 returns : tie.Need-returns
 unfolding two
-returns c = rw (← c.before.between.ensures, ← c.between2.ensures)
+returns c = rw (← c.between.ensures, ← c.between-2.ensures)
 
-pub is-two-spec : {M : Type 1} → statement M
-is-two-spec = tie.close (tie.spec (λ c κs. search rules) (λ c κs. search rules) returns)
+pub is_two_spec : {M : Type 1} → statement M
+is_two_spec = tie.close (tie.spec (λ c κs. search rules) (λ c κs. search rules) returns)

@@ -11,31 +11,31 @@ use Rattle.utf8.specs.Laws.{white_width_fits}
 use Rattle.utf8.proofs.past_white.Statement.{statement}
 use Rattle.utf8.proofs.past_white.Tie as tie
 
-abbrev invariant-loop : tie.invariant-loop
+abbrev invariant-loop : tie.invariant-loop-from
 invariant-loop s from at₀ at = reach white_width s at₀ ≡ reach white_width s at
 
-abbrev decreases-loop : tie.decreases-loop
+abbrev decreases-loop : tie.decreases-loop-from
 decreases-loop s from at₀ at = length s - at
 
-loop-holds : tie.Need-loop-init invariant-loop decreases-loop
+loop-holds : tie.Need-loop-from-init invariant-loop decreases-loop
 loop-holds c = refl
 
-returns : tie.Need-returns invariant-loop decreases-loop
+returns : tie.Need-returns-then-w-eq0 invariant-loop decreases-loop
 unfolding past_white
 returns c =
-    sym (c.before.before.loop.invariant ∙ turn_end white_width white_width_fits _ _ _ c.before.white-width.ensures c.if1.true)
+    sym (c.loop-from.invariant ∙ turn_end white_width white_width_fits _ _ _ c.white_width-w.ensures c.if-w-eq0.true)
 
 -- the step ends inside the text
-step : (c : tie.Else1 invariant-loop decreases-loop)
-    → c.before.before.loop.at + c.before.white-width.result ≤ length c.before.before.before.before.args.s.now
-step c = turn_in white_width white_width_fits _ _ _ c.before.white-width.ensures (omega arith)
+step : (c : tie.Else-w-eq0 invariant-loop decreases-loop)
+    → c.loop-from.at + c.white_width-w.result ≤ length c.args.s.now
+step c = turn_in white_width white_width_fits _ _ _ c.white_width-w.ensures (omega arith)
 
-loop-again : tie.Need-loop-preserved invariant-loop decreases-loop
+loop-again : tie.Need-loop-from-preserved invariant-loop decreases-loop
 loop-again c =
-    c.before.before.loop.invariant ∙ turn_on white_width white_width_fits _ _ _ c.before.white-width.ensures (omega arith)
+    c.loop-from.invariant ∙ turn_on white_width white_width_fits _ _ _ c.white_width-w.ensures (omega arith)
 
-pub past-white-spec : {M : Type 1} → statement M
-past-white-spec =
+pub past_white_spec : {M : Type 1} → statement M
+past_white_spec =
     tie.close
     (tie.spec
     invariant-loop

@@ -10,15 +10,14 @@ use Rattle.utf8.specs.Laws.{white_is, white_not, ascii_white}
 use Rattle.utf8.proofs.white_width.Statement.{statement}
 use Rattle.utf8.proofs.white_width.Tie as tie
 
-returns : tie.Need-returns
+returns : tie.Need-returns-then-b-le127
 returns c =
-    let b = c.before.before in
-    let a = b.before.before.args in
-    c.ascii_white.ensures ∙ ap (λ (x : ℕ). cond (white_of x) 1 0) b.byte.ensures
-    ∙ ascii_white a.s.now a.at (omega (arith, b.byte.ensures, c.before.if1.true))
+    let a = c.args in
+    c.ascii_white.ensures ∙ ap (λ (x : ℕ). cond (white_of x) 1 0) c.byte-b.ensures
+    ∙ ascii_white a.s.now a.at (omega (arith, c.byte-b.ensures, c.if-b-le127.true))
 
-pub white-width-spec : {M : Type 1} → statement M
-white-width-spec =
+pub white_width_spec : {M : Type 1} → statement M
+white_width_spec =
     tie.close
     (tie.spec
     (λ c κs. search rules)
