@@ -20,7 +20,7 @@ use names::table::LICENCES;
 use refusal::{Expected, Refusal, Span};
 
 // What became of a text and the buffer that was lent for its canonical text.
-#[derive(Drop)]
+#[derive(Clone, Copy)]
 pub enum Answer {
     // the text is canonical, and nothing was written
     Unchanged,
@@ -31,7 +31,7 @@ pub enum Answer {
 }
 
 // What one step of the lexer makes of a draft.
-#[derive(Drop)]
+#[derive(Clone, Copy)]
 pub enum Turn {
     // the next token is looked for at a place, and so many bytes are written
     Goes { at: usize, len: usize },
@@ -40,7 +40,7 @@ pub enum Turn {
 }
 
 // A draft: how long it is, or why there is none.
-#[derive(Drop)]
+#[derive(Clone, Copy)]
 pub enum Draft {
     Text(usize),
     Bad(Refusal),

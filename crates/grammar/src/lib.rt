@@ -4,28 +4,28 @@
 use refusal::Refusal;
 
 // A range of a text's bytes, as a leaf holds it.
-#[derive(Drop)]
+#[derive(Clone, Copy)]
 pub struct Range {
     pub start: u16,
     pub end: u16,
 }
 
 // The document part of a reference.
-#[derive(Drop)]
+#[derive(Clone, Copy)]
 pub enum Part {
     Absent,
     At(Range),
 }
 
 // A listed name's place among the licences, or the ranges of a reference's names.
-#[derive(Drop)]
+#[derive(Clone, Copy)]
 pub enum Licence {
     Listed(u16),
     Reference { doc: Part, name: Range },
 }
 
 // A listed exception's place, or the ranges of a reference's names.
-#[derive(Drop)]
+#[derive(Clone, Copy)]
 pub enum Addition {
     Nothing,
     Listed(u16),
@@ -33,7 +33,7 @@ pub enum Addition {
 }
 
 // One licence, with its `+` and its addition. The span is that of the licence token alone.
-#[derive(Drop)]
+#[derive(Clone, Copy)]
 pub struct Leaf {
     pub licence: Licence,
     pub plus: bool,
@@ -41,7 +41,7 @@ pub struct Leaf {
     pub span: Range,
 }
 
-#[derive(Drop)]
+#[derive(Clone, Copy)]
 pub enum Kind {
     Blank,
     Leaf(Leaf),
@@ -49,12 +49,12 @@ pub enum Kind {
     Or,
 }
 
-#[derive(Drop)]
+#[derive(Clone, Copy)]
 pub struct Node {
     pub kind: Kind,
 }
 
-#[derive(Drop)]
+#[derive(Clone, Copy)]
 pub enum Outcome {
     Read,
     Refused(Refusal),
@@ -69,7 +69,7 @@ pub struct Parsed {
 }
 
 // The token before, as far as it decides what may follow.
-#[derive(Drop)]
+#[derive(Clone, Copy)]
 pub enum Before {
     // no token
     Nothing,
@@ -90,7 +90,7 @@ pub enum Before {
 }
 
 // What a token is where a licence may stand.
-#[derive(Drop)]
+#[derive(Clone, Copy)]
 pub enum Start {
     // it begins this leaf
     Begins(Leaf, Before),
@@ -101,7 +101,7 @@ pub enum Start {
 }
 
 // What a token is behind the tokens of a leaf.
-#[derive(Drop)]
+#[derive(Clone, Copy)]
 pub enum Move {
     // one more of them: the leaf is now this
     Goes(Leaf, Before),
@@ -111,7 +111,7 @@ pub enum Move {
 }
 
 // What a token is where an operand has ended.
-#[derive(Drop)]
+#[derive(Clone, Copy)]
 pub enum Link {
     And,
     Or,

@@ -14,14 +14,14 @@ use names::{Found, Loose};
 use refusal::{Refusal, Span};
 
 // The document part of a reference: the range of its name.
-#[derive(Drop)]
+#[derive(Clone, Copy)]
 pub enum Doc {
     Absent,
     Part(Span),
 }
 
 // A listed name is its place among the licences or the exceptions, a reference the ranges of its names.
-#[derive(Drop)]
+#[derive(Clone, Copy)]
 pub enum Token {
     And,
     Or,
@@ -37,14 +37,14 @@ pub enum Token {
 }
 
 // A place in a text, and the mode in which it is read.
-#[derive(Drop)]
+#[derive(Clone, Copy)]
 pub struct Cursor {
     pub mode: Mode,
     pub at: usize,
 }
 
 // The answer of a step. A refusal gives no next cursor.
-#[derive(Drop)]
+#[derive(Clone, Copy)]
 pub enum Step {
     Got {
         token: Token,
@@ -56,14 +56,14 @@ pub enum Step {
 }
 
 // What a try says of a run: its token and where that ends, or nothing.
-#[derive(Drop)]
+#[derive(Clone, Copy)]
 pub enum Word {
     Is(Token, usize),
     Not,
 }
 
 // Whether a text may be read at all.
-#[derive(Drop)]
+#[derive(Clone, Copy)]
 pub enum Checked {
     Fine,
     Bad(Refusal),

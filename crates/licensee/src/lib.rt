@@ -14,49 +14,49 @@ use mode::Mode;
 use refusal::{Refusal, Span};
 
 // What an entry of the list offers. Its ranges stand in the file.
-#[derive(Drop)]
+#[derive(Clone, Copy)]
 pub struct Licensee {
     pub licence: Licence,
     pub addition: Addition,
 }
 
 // The licence that a token is.
-#[derive(Drop)]
+#[derive(Clone, Copy)]
 pub enum Licensed {
     Is(Licence),
     Not,
 }
 
 // The addition that tokens are.
-#[derive(Drop)]
+#[derive(Clone, Copy)]
 pub enum Added {
     Is(Addition),
     Not,
 }
 
 // What an entry's body is read as.
-#[derive(Drop)]
+#[derive(Clone, Copy)]
 pub enum Body {
     Is(Licensee),
     Refused(Refusal),
 }
 
 // What the check of a file answers: how many entries it has, or 17.
-#[derive(Drop)]
+#[derive(Clone, Copy)]
 pub enum Listed {
     Valid(usize),
     Refused(Refusal),
 }
 
 // A licence or an addition as a number: 0 none, 1 a listed name, 2 a reference, 3 one with a document part; and its index or its places.
-#[derive(Drop)]
+#[derive(Clone, Copy)]
 pub struct Term {
     pub kind: u8,
     pub places: u64,
 }
 
 // Both, with one number for the two kinds.
-#[derive(Drop)]
+#[derive(Clone, Copy)]
 pub struct Terms {
     pub kinds: u8,
     pub licence: u64,

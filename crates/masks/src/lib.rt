@@ -13,7 +13,7 @@ use refusal::Refusal;
 const ROOM: u64 = 0x8000_0000_0000_0000;
 
 // What a choice answers.
-#[derive(Drop)]
+#[derive(Clone, Copy)]
 pub enum Choice {
     Mask(u64),
     // where it would go on
@@ -22,7 +22,7 @@ pub enum Choice {
 }
 
 // What a call of the listing answers, each with the next cursor.
-#[derive(Drop)]
+#[derive(Clone, Copy)]
 pub enum Listing {
     Found { mask: u64, next: u64 },
     Paused(u64),

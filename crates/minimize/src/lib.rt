@@ -24,7 +24,7 @@ pub enum Asked {
 }
 
 // How many licensees are found, whose places in the list are written; or why there are none.
-#[derive(Drop)]
+#[derive(Clone, Copy)]
 pub enum Finding {
     Count(usize),
     Refused(Refusal),

@@ -5,7 +5,7 @@ ghost use Rattle.std.specs.Prelude.{◌≡◌};
 ghost use Rattle.mode.specs.Modes.{strict, lax, mode_of};
 
 // Five free flags.
-#[derive(Drop)]
+#[derive(Clone, Copy)]
 pub struct Mode {
     // `/` as OR
     pub slash: bool,

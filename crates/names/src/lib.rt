@@ -14,21 +14,21 @@ pub mod table;
 use table::{EXCEPTIONS, LICENCES, NAMES};
 
 // Where a run of bytes stands among the names of a part, if it does.
-#[derive(Drop)]
+#[derive(Clone, Copy)]
 pub enum Found {
     At(usize),
     Nothing,
 }
 
 // An imprecise name that begins a text: the licence that it stands for, and its length.
-#[derive(Drop)]
+#[derive(Clone, Copy)]
 pub enum Loose {
     Hit { licence: usize, len: usize },
     Miss,
 }
 
 // How one run of bytes stands to another.
-#[derive(Drop)]
+#[derive(Clone, Copy)]
 pub enum Order {
     Less,
     Equal,

@@ -34,7 +34,7 @@ pub struct State {
 }
 
 // What one turn does to the arrays, and the state after it.
-#[derive(Drop)]
+#[derive(Clone, Copy)]
 pub enum Action {
     // the last leaf is this
     Put(Leaf, State),

@@ -6,7 +6,7 @@ ghost use Rattle.text.specs.Every.{all_of};
 ghost use Rattle.utf8.specs.Utf8.{ascii_byte, lowest, highest, two, three, four, decoded, front, char_width, first_ill, inside_of, white_of, white_width, past_white};
 
 // A character: its code point and how many bytes it takes, 0 where it is ill-formed.
-#[derive(Drop)]
+#[derive(Clone, Copy)]
 pub struct Char {
     pub code: u32,
     pub width: usize,

@@ -7,21 +7,21 @@ use Rattle.lexer.specs.Agree.{check_long, check_ill, check_fine}
 use Rattle.lexer.proofs.check.Statement.{statement}
 use Rattle.lexer.proofs.check.Tie as tie
 
-returns-2 : tie.Need-returns-2
+returns-2 : tie.Need-returns-then-p-s
 returns-2 c =
-    let s = c.before.before.before.before.args.s.now in
-    rw c.before.first-ill.ensures (sym (check_ill s (omega arith) (omega (arith, c.before.first-ill.ensures))))
+    let s = c.args.s.now in
+    rw c.first_ill-p.ensures (sym (check_ill s (omega arith) (omega (arith, c.first_ill-p.ensures))))
 
-returns-3 : tie.Need-returns-3
+returns-3 : tie.Need-returns
 returns-3 c =
-    let s = c.before.before.before.before.args.s.now in
-    sym (check_fine s (omega arith) (omega (arith, c.before.first-ill.ensures, boundary_le (ill_boundary s))))
+    let s = c.args.s.now in
+    sym (check_fine s (omega arith) (omega (arith, c.first_ill-p.ensures, boundary_le (ill_boundary s))))
 
-pub check-spec : {M : Type 1} → statement M
-check-spec =
+pub check_spec : {M : Type 1} → statement M
+check_spec =
     tie.close
     (tie.spec
-    (λ c. sym (check_long _ c.if1.true))
+    (λ c. sym (check_long _ c.if-s-gt1024.true))
     (λ c κs. search rules)
     (λ c. search rules)
     returns-2

@@ -9,40 +9,37 @@ use Rattle.lexer.proofs.document.Statement.{statement}
 use Rattle.lexer.proofs.document.Tie as tie
 
 -- the prefix that stands at p ends inside the text
-add_start : tie.Need-overflow-add-t10
+add_start : tie.Need-overflow_add-result
 add_start c =
-    let i = c.before.before.before in
-    let a = i.before.before.before.before.args in
-    omega (arith, stands_in (ascii "DocumentRef-") a.s.now a.p (omega arith) (sym i.before.stands.ensures ∙ i.if1.true))
+    let a = c.args in
+    omega (arith, stands_in (ascii "DocumentRef-") a.s.now a.p (omega arith) (sym c.stands.ensures ∙ c.if-stands.true))
 
-returns : tie.Need-returns
+returns : tie.Need-returns-then-byte-eq58
 unfolding document_of
 returns c =
-    let i = c.before.before.before in
     simp (
-      sym i.before.stands.ensures ∙ i.if1.true,
-      ← c.before.before.ref-end.ensures,
-      ← c.before.byte.ensures,
-      eq-eqb _ _ c.if2.true,
+      sym c.stands.ensures ∙ c.if-stands.true,
+      ← c.ref_end-e.ensures,
+      ← c.byte.ensures,
+      eq-eqb _ _ c.if-byte-eq58.true,
     )
 
-returns-2 : tie.Need-returns-2
+returns-2 : tie.Need-returns-else-byte-eq58
 unfolding document_of
 returns-2 c =
-    let i = c.before.before.before in
     simp (
-      sym i.before.stands.ensures ∙ i.if1.true,
-      ← c.before.before.ref-end.ensures,
-      ← c.before.byte.ensures,
-      ne_eqb _ _ c.if2.false,
+      sym c.stands.ensures ∙ c.if-stands.true,
+      ← c.ref_end-e.ensures,
+      ← c.byte.ensures,
+      ne_eqb _ _ c.if-byte-eq58.false,
     )
 
-returns-3 : tie.Need-returns-3
+returns-3 : tie.Need-returns-else-stands
 unfolding document_of
-returns-3 c = simp (sym c.before.stands.ensures ∙ c.if1.false)
+returns-3 c = simp (sym c.stands.ensures ∙ c.if-stands.false)
 
-pub document-spec : {M : Type 1} → statement M
-document-spec =
+pub document_spec : {M : Type 1} → statement M
+document_spec =
     tie.close
     (tie.spec
     (λ c. search rules)

@@ -4,12 +4,12 @@ use Rattle.lexer.specs.LexLaws.{from_out, from_in}
 use Rattle.lexer.proofs.from.Statement.{statement}
 use Rattle.lexer.proofs.from.Tie as tie
 
-pub from-spec : {M : Type 1} → statement M
-from-spec =
+pub from_spec : {M : Type 1} → statement M
+from_spec =
     tie.close
     (tie.spec
     (λ c κs. search rules)
-    (λ c. from_out _ _ _ _ c.before.inside.ensures c.if1.true)
+    (λ c. from_out _ _ _ _ c.inside.ensures c.if-s-at.true)
     (λ c κs. search rules)
     (λ c. search rules)
     (λ c κs. search rules)

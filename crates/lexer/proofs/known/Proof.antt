@@ -6,21 +6,21 @@ use Rattle.lexer.specs.LexLaws.{or_is, or_not}
 use Rattle.lexer.proofs.known.Statement.{statement}
 use Rattle.lexer.proofs.known.Tie as tie
 
-returns : tie.Need-returns
+returns : tie.Need-returns-in-Is
 unfolding part
 returns c =
-    let a = c.before.before.before.before.before.before.args in
-    rw (grouped a.s.now a.m a.p a.e) (or_is _ _ _ _ _ c.before.before.named.ensures c.enum_told.given.1)
+    let a = c.args in
+    rw (grouped a.s.now a.m a.p a.e) (or_is _ _ _ _ _ c.named-w.ensures c.in-Is.is)
 
-returns-2 : tie.Need-returns-2
+returns-2 : tie.Need-returns-in-Not
 unfolding part
 returns-2 c =
-    let a = c.before.before.before.before.before.before.before.args in
+    let a = c.args in
     rw (grouped a.s.now a.m a.p a.e)
-    (or_not _ _ (other_of a.s.now a.m a.p a.e) _ c.before.before.before.named.ensures c.before.enum-told2.given.1 c.other.ensures)
+    (or_not _ _ (other_of a.s.now a.m a.p a.e) _ c.named-w.ensures c.in-Not.is c.other.ensures)
 
-pub known-spec : {M : Type 1} → statement M
-known-spec =
+pub known_spec : {M : Type 1} → statement M
+known_spec =
     tie.close
     (tie.spec
     (λ c. search rules)

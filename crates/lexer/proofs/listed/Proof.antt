@@ -3,24 +3,22 @@ use Rattle.lexer.specs.Shape.{listed_of}
 use Rattle.lexer.proofs.listed.Statement.{statement}
 use Rattle.lexer.proofs.listed.Tie as tie
 
-returns : tie.Need-returns
+returns : tie.Need-returns-in-At
 unfolding listed_of
-returns c = simp (← c.before.before.before.licence.ensures, c.before.k.given.1)
+returns c = simp (← c.licence.ensures, c.in-At.is)
 
-returns-2 : tie.Need-returns-2
+returns-2 : tie.Need-returns-in-At-exception
 unfolding listed_of
 returns-2 c =
-    let l = c.before.before.before.before in
-    simp (← l.before.before.licence.ensures, l.enum_told.given.1, ← c.before.before.before.exception.ensures, c.before.k2.given.1)
+    simp (← c.licence.ensures, c.in_default.is, ← c.exception.ensures, c.in-At-exception.is)
 
-returns-3 : tie.Need-returns-3
+returns-3 : tie.Need-returns
 unfolding listed_of
 returns-3 c =
-    let l = c.before.before.before in
-    simp (← l.before.before.licence.ensures, l.enum_told.given.1, ← c.before.before.exception.ensures, c.enum-told2.given.1)
+    simp (← c.licence.ensures, c.in_default.is, ← c.exception.ensures, c.in_default-exception.is)
 
-pub listed-spec : {M : Type 1} → statement M
-listed-spec =
+pub listed_spec : {M : Type 1} → statement M
+listed_spec =
     tie.close
     (tie.spec
     (λ c κs. search rules)

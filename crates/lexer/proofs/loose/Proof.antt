@@ -10,26 +10,25 @@ use Rattle.lexer.specs.Shape.{loose_of}
 use Rattle.lexer.proofs.loose.Statement.{statement}
 use Rattle.lexer.proofs.loose.Tie as tie
 
-add-end : tie.Need-overflow-add-t11
+add-end : tie.Need-overflow_add-result
 add-end c =
-    let a = c.before.before.before.before.before.before.before.args in
-    let h = imprecise_fits (drop a.p a.s.now) _ _ (sym c.before.before.before.imprecise.ensures ∙ c.before.licence.given.1) in
+    let a = c.args in
+    let h = imprecise_fits (drop a.p a.s.now) _ _ (sym c.imprecise.ensures ∙ c.in-Hit.is) in
     omega (arith, h.fits, length-drop a.p a.s.now)
 
-returns : tie.Need-returns
+returns : tie.Need-returns-in-Hit
 unfolding loose_of imprecise_at
 returns c =
-    let i = c.before.before.before in
-    simp (i.before.if1.true, ← i.imprecise.ensures, c.before.licence.given.1)
+    simp (c.if-m.true, ← c.imprecise.ensures, c.in-Hit.is)
 
-returns-2 : tie.Need-returns-2
+returns-2 : tie.Need-returns
 unfolding loose_of imprecise_at
 returns-2 c =
     c.unknown.ensures
-    ∙ ⊎_elim (λ w. simp (w.0.taken, ← w.1.ensures, w.3.given.1)) (λ w. simp w.left) c.before.if1.branch
+    ∙ ⊎_elim (λ w. simp (w.0.taken, ← w.1.ensures, w.3.given.1)) (λ w. simp w.left) c.if-m.branch
 
-pub loose-spec : {M : Type 1} → statement M
-loose-spec =
+pub loose_spec : {M : Type 1} → statement M
+loose_spec =
     tie.close
     (tie.spec
     (λ c κs. search rules)

@@ -9,18 +9,18 @@ pub mark_spec : {M : Type 1} → statement M
 mark_spec =
     tie.close
     (tie.spec
-    (λ c. mark_done _ _ _ _ c.if1.true)
+    (λ c. mark_done _ _ _ _ c.if-s-p.true)
     (λ c. search rules)
     (λ c. search rules)
     (λ c κs. search rules)
-    (λ c. c.emit.ensures ∙ mark_plus _ _ _ _ (omega arith) c.before.before.if2.true c.before.if3.true)
-    (λ c. mark_apart _ _ _ _ (omega arith) c.before.if2.true c.if3.false)
+    (λ c. c.emit.ensures ∙ mark_plus _ _ _ _ (omega arith) c.if-b-eq43.true c.if-p-at.true)
+    (λ c. mark_apart _ _ _ _ (omega arith) c.if-b-eq43.true c.if-p-at.false)
     (λ c. search rules)
     (λ c κs. search rules)
-    (λ c. c.emit2.ensures ∙ mark_open _ _ _ _ (omega arith) c.before.if4.true)
+    (λ c. c.emit-then-b-eq40.ensures ∙ mark_open _ _ _ _ (omega arith) c.if-b-eq40.true)
     (λ c. search rules)
     (λ c κs. search rules)
-    (λ c. c.emit3.ensures ∙ mark_close _ _ _ _ (omega arith) c.before.if5.true)
+    (λ c. c.emit-then-b-eq41.ensures ∙ mark_close _ _ _ _ (omega arith) c.if-b-eq41.true)
     (λ c. search rules)
     (λ c κs. search rules)
     (λ c.

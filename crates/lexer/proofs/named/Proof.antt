@@ -4,15 +4,15 @@ use Rattle.lexer.specs.LexLaws.{or_is, or_not}
 use Rattle.lexer.proofs.named.Statement.{statement}
 use Rattle.lexer.proofs.named.Tie as tie
 
-returns : tie.Need-returns
+returns : tie.Need-returns-in-Is
 unfolding named_of
-returns c = or_is _ _ _ _ _ c.before.before.operator.ensures c.enum_told.given.1
+returns c = or_is _ _ _ _ _ c.operator-w.ensures c.in-Is.is
 
-returns-2 : tie.Need-returns-2
+returns-2 : tie.Need-returns-in-Not
 unfolding named_of
-returns-2 c = or_not _ _ _ _ c.before.before.before.operator.ensures c.before.enum-told2.given.1 c.listed.ensures
+returns-2 c = or_not _ _ _ _ c.operator-w.ensures c.in-Not.is c.listed.ensures
 
-pub named-spec : {M : Type 1} → statement M
-named-spec =
+pub named_spec : {M : Type 1} → statement M
+named_spec =
     tie.close
     (tie.spec (λ c κs. search rules) (λ c. search rules) (λ c. search rules) (λ c κs. search rules) returns returns-2)

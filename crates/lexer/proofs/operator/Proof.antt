@@ -4,30 +4,25 @@ use Rattle.lexer.specs.LexLaws.{operator_and, operator_or, operator_with, operat
 use Rattle.lexer.proofs.operator.Statement.{statement}
 use Rattle.lexer.proofs.operator.Tie as tie
 
-returns : tie.Need-returns
-returns c = operator_and _ _ (called _ _ _ c.before.spelled.ensures c.if1.true)
+returns : tie.Need-returns-then-spelled
+returns c = operator_and _ _ (called _ _ _ c.spelled.ensures c.if-spelled.true)
 
-returns-2 : tie.Need-returns-2
+returns-2 : tie.Need-returns-then-spelled-2
 returns-2 c =
-    let a = c.before.before.before.before in
-    operator_or _ _ (called _ _ _ a.before.spelled.ensures a.if1.false) (called _ _ _ c.before.spelled2.ensures c.if2.true)
+    operator_or _ _ (called _ _ _ c.spelled.ensures c.if-spelled.false) (called _ _ _ c.spelled-2.ensures c.if-spelled-2.true)
 
-returns-3 : tie.Need-returns-3
+returns-3 : tie.Need-returns-then-spelled-3
 returns-3 c =
-    let o = c.before.before.before.before in
-    let a = o.before.before.before.before in
-    operator_with _ _ (called _ _ _ a.before.spelled.ensures a.if1.false) (called _ _ _ o.before.spelled2.ensures o.if2.false)
-    (called _ _ _ c.before.spelled3.ensures c.if3.true)
+    operator_with _ _ (called _ _ _ c.spelled.ensures c.if-spelled.false) (called _ _ _ c.spelled-2.ensures c.if-spelled-2.false)
+    (called _ _ _ c.spelled-3.ensures c.if-spelled-3.true)
 
-returns-4 : tie.Need-returns-4
+returns-4 : tie.Need-returns
 returns-4 c =
-    let o = c.before.before.before.before in
-    let a = o.before.before.before.before in
-    operator_not _ _ (called _ _ _ a.before.spelled.ensures a.if1.false) (called _ _ _ o.before.spelled2.ensures o.if2.false)
-    (called _ _ _ c.before.spelled3.ensures c.if3.false)
+    operator_not _ _ (called _ _ _ c.spelled.ensures c.if-spelled.false) (called _ _ _ c.spelled-2.ensures c.if-spelled-2.false)
+    (called _ _ _ c.spelled-3.ensures c.if-spelled-3.false)
 
-pub operator-spec : {M : Type 1} → statement M
-operator-spec =
+pub operator_spec : {M : Type 1} → statement M
+operator_spec =
     tie.close
     (tie.spec
     (λ c. search rules)

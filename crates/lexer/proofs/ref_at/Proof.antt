@@ -11,38 +11,36 @@ use Rattle.lexer.proofs.ref_at.Statement.{statement}
 use Rattle.lexer.proofs.ref_at.Tie as tie
 
 -- a prefix that stands at q ends inside the text
-license-in : (c : tie.Then1) → let a = c.before.before.before.before.args in a.q + 11 ≤ length a.s.now
+license-in : (c : tie.Then-stands) → let a = c.args in a.q + 11 ≤ length a.s.now
 license-in c =
-    let a = c.before.before.before.before.args in
-    stands_in (ascii "LicenseRef-") a.s.now a.q (omega arith) (sym c.before.stands.ensures ∙ c.if1.true)
+    let a = c.args in
+    stands_in (ascii "LicenseRef-") a.s.now a.q (omega arith) (sym c.stands.ensures ∙ c.if-stands.true)
 
-addition-in : (c : tie.Then2) → let a = c.before.before.before.before.before.before.before.args in a.q + 12 ≤ length a.s.now
+addition-in : (c : tie.Then-stands-2) → let a = c.args in a.q + 12 ≤ length a.s.now
 addition-in c =
-    let a = c.before.before.before.before.before.before.before.args in
-    stands_in (ascii "AdditionRef-") a.s.now a.q (omega arith) (sym c.before.stands2.ensures ∙ c.if2.true)
+    let a = c.args in
+    stands_in (ascii "AdditionRef-") a.s.now a.q (omega arith) (sym c.stands-2.ensures ∙ c.if-stands-2.true)
 
-returns : tie.Need-returns
+returns : tie.Need-returns-then-stands
 unfolding ref_at ref_of
-returns c = simp (sym c.before.before.stands.ensures ∙ c.before.if1.true, ← c.ref-end.ensures)
+returns c = simp (sym c.stands.ensures ∙ c.if-stands.true, ← c.ref_end-e.ensures)
 
-returns-2 : tie.Need-returns-2
+returns-2 : tie.Need-returns-then-stands-2
 unfolding ref_at ref_of
 returns-2 c =
-    let i = c.before.before.before.before in
     simp (
-      sym i.before.stands.ensures ∙ i.if1.false,
-      sym c.before.before.stands2.ensures ∙ c.before.if2.true,
-      ← c.ref-end2.ensures,
+      sym c.stands.ensures ∙ c.if-stands.false,
+      sym c.stands-2.ensures ∙ c.if-stands-2.true,
+      ← c.ref_end-e-then-stands-2.ensures,
     )
 
-returns-3 : tie.Need-returns-3
+returns-3 : tie.Need-returns
 unfolding ref_at ref_of
 returns-3 c =
-    let i = c.before.before.before in
-    simp (sym i.before.stands.ensures ∙ i.if1.false, sym c.before.stands2.ensures ∙ c.if2.false)
+    simp (sym c.stands.ensures ∙ c.if-stands.false, sym c.stands-2.ensures ∙ c.if-stands-2.false)
 
-pub ref-at-spec : {M : Type 1} → statement M
-ref-at-spec =
+pub ref_at_spec : {M : Type 1} → statement M
+ref_at_spec =
     tie.close
     (tie.spec
     (λ c. search rules)

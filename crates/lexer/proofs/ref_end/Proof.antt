@@ -10,26 +10,26 @@ use Rattle.text.specs.RunLaws.{ended, Turn, turned}
 use Rattle.lexer.proofs.ref_end.Statement.{statement}
 use Rattle.lexer.proofs.ref_end.Tie as tie
 
-abbrev invariant-loop : tie.invariant-loop
+abbrev invariant-loop : tie.invariant-loop-from
 invariant-loop s from at₀ at = ref_end s at₀ ≡ ref_end s at
 
-abbrev decreases-loop : tie.decreases-loop
+abbrev decreases-loop : tie.decreases-loop-from
 decreases-loop s from at₀ at = length s - at
 
-turn : (c : tie.Else1 invariant-loop decreases-loop)
-    → Turn ref_byte c.before.before.before.before.args.s.now c.before.before.loop.at c.before.ref-width.result
-turn c = turned ref_byte _ _ _ c.before.ref-width.ensures (omega arith)
+turn : (c : tie.Else-w-eq0 invariant-loop decreases-loop)
+    → Turn ref_byte c.args.s.now c.loop-from.at c.ref_width-w.result
+turn c = turned ref_byte _ _ _ c.ref_width-w.ensures (omega arith)
 
-pub ref-end-spec : {M : Type 1} → statement M
+pub ref_end_spec : {M : Type 1} → statement M
 unfolding ref_end
-ref-end-spec =
+ref_end_spec =
     tie.close
     (tie.spec
     invariant-loop
     decreases-loop
     (λ c. refl)
     (λ c κs. search rules)
-    (λ c. sym (c.before.before.loop.invariant ∙ ended ref_byte _ _ _ c.before.ref-width.ensures c.if1.true))
+    (λ c. sym (c.loop-from.invariant ∙ ended ref_byte _ _ _ c.ref_width-w.ensures c.if-w-eq0.true))
     (λ c. omega (arith, (turn c).ranges))
     (λ c. omega (arith, (turn c).ranges))
-    (λ c. c.before.before.loop.invariant ∙ (turn c).on))
+    (λ c. c.loop-from.invariant ∙ (turn c).on))

@@ -6,22 +6,21 @@ use Rattle.lexer.specs.LexLaws.{document_in}
 use Rattle.lexer.proofs.reference.Statement.{statement}
 use Rattle.lexer.proofs.reference.Tie as tie
 
-add-ref-at : tie.Need-overflow-add-ref-at
+add-ref-at : tie.Need-overflow_add-part
 add-ref-at c =
-    let a = c.before.before.before.before.before.before.args in
-    let d = c.before.before in
-    omega (arith, document_in a.s.now a.p _ (sym d.before.before.document.ensures ∙ d.d.given.1))
+    let a = c.args in
+    omega (arith, document_in a.s.now a.p _ (sym c.document-d.ensures ∙ c.in-Part.is))
 
-returns : tie.Need-returns
+returns : tie.Need-returns-in-Absent
 unfolding referred_of
-returns c = c.ref-at.ensures ∙ simp (← c.before.before.before.document.ensures, c.before.enum_told.given.1)
+returns c = c.ref_at.ensures ∙ simp (← c.document-d.ensures, c.in-Absent.is)
 
-returns-2 : tie.Need-returns-2
+returns-2 : tie.Need-returns-in-Part
 unfolding referred_of
-returns-2 c = let d = c.before.before.before in c.ref-at2.ensures ∙ simp (← d.before.before.document.ensures, d.d.given.1)
+returns-2 c = c.ref_at-in-Part.ensures ∙ simp (← c.document-d.ensures, c.in-Part.is)
 
-pub reference-spec : {M : Type 1} → statement M
-reference-spec =
+pub reference_spec : {M : Type 1} → statement M
+reference_spec =
     tie.close
     (tie.spec
     (λ c κs. search rules)

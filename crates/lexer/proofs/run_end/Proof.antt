@@ -10,26 +10,26 @@ use Rattle.text.specs.RunLaws.{ended, Turn, turned}
 use Rattle.lexer.proofs.run_end.Statement.{statement}
 use Rattle.lexer.proofs.run_end.Tie as tie
 
-abbrev invariant-loop : tie.invariant-loop
+abbrev invariant-loop : tie.invariant-loop-from
 invariant-loop s from at₀ at = run_end s at₀ ≡ run_end s at
 
-abbrev decreases-loop : tie.decreases-loop
+abbrev decreases-loop : tie.decreases-loop-from
 decreases-loop s from at₀ at = length s - at
 
-turn : (c : tie.Else1 invariant-loop decreases-loop)
-    → Turn run_byte c.before.before.before.before.args.s.now c.before.before.loop.at c.before.run-width.result
-turn c = turned run_byte _ _ _ c.before.run-width.ensures (omega arith)
+turn : (c : tie.Else-w-eq0 invariant-loop decreases-loop)
+    → Turn run_byte c.args.s.now c.loop-from.at c.run_width-w.result
+turn c = turned run_byte _ _ _ c.run_width-w.ensures (omega arith)
 
-pub run-end-spec : {M : Type 1} → statement M
+pub run_end_spec : {M : Type 1} → statement M
 unfolding run_end
-run-end-spec =
+run_end_spec =
     tie.close
     (tie.spec
     invariant-loop
     decreases-loop
     (λ c. refl)
     (λ c κs. search rules)
-    (λ c. sym (c.before.before.loop.invariant ∙ ended run_byte _ _ _ c.before.run-width.ensures c.if1.true))
+    (λ c. sym (c.loop-from.invariant ∙ ended run_byte _ _ _ c.run_width-w.ensures c.if-w-eq0.true))
     (λ c. omega (arith, (turn c).ranges))
     (λ c. omega (arith, (turn c).ranges))
-    (λ c. c.before.before.loop.invariant ∙ (turn c).on))
+    (λ c. c.loop-from.invariant ∙ (turn c).on))

@@ -4,8 +4,8 @@ use Rattle.lexer.specs.Lex.{scan_of}
 use Rattle.lexer.proofs.scan.Statement.{statement}
 use Rattle.lexer.proofs.scan.Tie as tie
 
-pub scan-spec : {M : Type 1} → statement M
+pub scan_spec : {M : Type 1} → statement M
 unfolding scan_of
-scan-spec =
+scan_spec =
     tie.close
-    (tie.spec (λ c κs. search rules) (λ c κs. search rules) (λ c. c.mark.ensures ∙ simp c.before.past-white.ensures))
+    (tie.spec (λ c κs. search rules) (λ c κs. search rules) (λ c. c.mark.ensures ∙ simp c.past_white.ensures))

@@ -3,6 +3,6 @@ use Rattle.lexer.specs.Lex.{unknown_of}
 use Rattle.lexer.proofs.unknown.Statement.{statement}
 use Rattle.lexer.proofs.unknown.Tie as tie
 
-pub unknown-spec : {M : Type 1} → statement M
+pub unknown_spec : {M : Type 1} → statement M
 unfolding unknown_of
-unknown-spec = tie.close (tie.spec (λ c. search tests) (λ c. search tests))
+unknown_spec = tie.close (tie.spec (λ c. search tests) (λ c. search tests))

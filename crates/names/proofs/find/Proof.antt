@@ -81,22 +81,20 @@ returns-2 c =
     (sym c.compare-o.ensures ∙ c.in-Less.is) c.loop-k.invariant.2
 
 loop-again : tie.Need-loop-k-preserved-in-Greater invariant-loop decreases-loop
-loop-again c =
-    (
-      omega arith,
-      omega arith,
-      on c.args.from c.args.to c.requires.2 c.requires.3 c.args.run.now c.loop-k.k (omega arith) (omega arith)
-          (sym c.compare-o.ensures ∙ c.in-Greater.is),
-    )
+loop-again c = (
+  omega arith,
+  omega arith,
+  on c.args.from c.args.to c.requires.2 c.requires.3 c.args.run.now c.loop-k.k (omega arith) (omega arith)
+      (sym c.compare-o.ensures ∙ c.in-Greater.is),
+)
 
 loop-again-2 : tie.Need-loop-k-preserved invariant-loop decreases-loop
-loop-again-2 c =
-    (
-      omega arith,
-      omega arith,
-      past c.args.from c.args.to c.requires.2 c.requires.3 c.args.run.now c.loop-k.k (omega arith) (omega arith)
-          (λ e. c.if-len-run.false (c.len.ensures ∙ e)) c.loop-k.invariant.2,
-    )
+loop-again-2 c = (
+  omega arith,
+  omega arith,
+  past c.args.from c.args.to c.requires.2 c.requires.3 c.args.run.now c.loop-k.k (omega arith) (omega arith)
+      (λ e. c.if-len-run.false (c.len.ensures ∙ e)) c.loop-k.invariant.2,
+)
 
 returns-3 : tie.Need-returns invariant-loop decreases-loop
 returns-3 c =

@@ -35,11 +35,10 @@ loop-again c =
     (c.cell.ensures ∙ byte_at c.args.k c.requires.1 s.result c.loop-i.i s.ensures (omega arith)) c.loop-i.invariant
 
 returns : tie.Need-returns invariant-loop decreases-loop
-returns c =
-    (
-      ap (λ (n : ℕ). c.args.at + n) c.len-n.ensures,
-      writing_end c.args.at (name_at c.args.k) c.args.out.now c.loop-i.out c.loop-i.i (omega arith) c.loop-i.invariant,
-    )
+returns c = (
+  ap (λ (n : ℕ). c.args.at + n) c.len-n.ensures,
+  writing_end c.args.at (name_at c.args.k) c.args.out.now c.loop-i.out c.loop-i.i (omega arith) c.loop-i.invariant,
+)
 
 pub put_name_spec : {M : Type 1} → statement M
 put_name_spec =

@@ -4,13 +4,13 @@ use Rattle.lexer.specs.Lex.{step_of}
 use Rattle.lexer.proofs.Cursor.step.Statement.{statement}
 use Rattle.lexer.proofs.Cursor.step.Tie as tie
 
-returns : tie.Need-returns
+returns : tie.Need-returns-in-Bad
 unfolding step_of
-returns c = simp (← c.before.before.before.check.ensures, c.before.r.given.1)
+returns c = simp (← c.check.ensures, c.in-Bad.is)
 
-returns_2 : tie.Need-returns-2
+returns_2 : tie.Need-returns-in-Fine
 unfolding step_of
-returns_2 c = c.from.ensures ∙ simp (← c.before.before.before.check.ensures, c.before.enum_told.given.1)
+returns_2 c = c.from.ensures ∙ simp (← c.check.ensures, c.in-Fine.is)
 
 pub step_spec : {M : Type 1} → statement M
 step_spec =
