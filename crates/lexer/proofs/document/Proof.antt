@@ -42,7 +42,6 @@ pub document_spec : {M : Type 1} → statement M
 document_spec =
     tie.close
     (tie.spec
-    (λ c. search rules)
     (λ c κs. search rules)
     (λ c κs. search rules)
     (λ c κs. search rules)

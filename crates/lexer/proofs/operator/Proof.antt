@@ -25,16 +25,10 @@ pub operator_spec : {M : Type 1} → statement M
 operator_spec =
     tie.close
     (tie.spec
-    (λ c. search rules)
-    (λ c. search rules)
     (λ c κs. search rules)
     returns
-    (λ c. search rules)
-    (λ c. search rules)
     (λ c κs. search rules)
     returns-2
-    (λ c. search rules)
-    (λ c. search rules)
     (λ c κs. search rules)
     returns-3
     returns-4)

@@ -30,6 +30,6 @@ ref_end_spec =
     (λ c. refl)
     (λ c κs. search rules)
     (λ c. sym (c.loop-from.invariant ∙ ended ref_byte _ _ _ c.ref_width-w.ensures c.if-w-eq0.true))
-    (λ c. omega (arith, (turn c).ranges))
-    (λ c. omega (arith, (turn c).ranges))
+    (λ c. omega (arith, (turn c).fits))
+    (λ c. omega (arith, (turn c).fits))
     (λ c. c.loop-from.invariant ∙ (turn c).on))
