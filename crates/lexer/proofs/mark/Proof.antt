@@ -24,9 +24,7 @@ mark_spec =
     (λ c. search rules)
     (λ c κs. search rules)
     (λ c.
-    let b = c.before.before.before in
-    c.emit4.ensures ∙ mark_slash _ _ _ _ (omega arith) b.before.before.if2.false b.before.if4.false b.if5.false c.before.if6.true)
+    c.emit-then-b-m.ensures ∙ mark_slash _ _ _ _ (omega arith) c.if-b-eq43.false c.if-b-eq40.false c.if-b-eq41.false c.if-b-m.true)
     (λ c κs. search rules)
     (λ c.
-    let b = c.before.before.before in
-    c.run.ensures ∙ mark_run _ _ _ _ (omega arith) b.before.before.if2.false b.before.if4.false b.if5.false c.before.if6.false))
+    c.run.ensures ∙ mark_run _ _ _ _ (omega arith) c.if-b-eq43.false c.if-b-eq40.false c.if-b-eq41.false c.if-b-m.false))
