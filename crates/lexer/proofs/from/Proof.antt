@@ -14,5 +14,4 @@ from_spec =
     (λ c. search rules)
     (λ c κs. search rules)
     (λ c.
-    let i = c.before.before.before in
-    c.scan.ensures ∙ from_in _ _ _ _ i.before.inside.ensures i.if1.false))
+    c.scan.ensures ∙ from_in _ _ _ _ c.inside.ensures c.if-s-at.false))
