@@ -1,5 +1,5 @@
 -- An operand of the annex that neither `+` nor WITH follows is read as one leaf, and the leaf is the operand's item.
-use Rattle.std.specs.Prelude.{◌≡◌, true, false, List, ◌++◌, ℕ, suc, ◌≤◌, ◌<◌}
+use Rattle.std.specs.Prelude.{◌≡◌, Bool, true, false, List, ◌++◌, ℕ, suc, ◌≤◌, ◌<◌}
 use Rattle.std.proofs.Math.Path.{refl}
 use Rattle.std.proofs.Common.{sym, ap, subst, ◌∙◌, append_assoc}
 use native.Mathlib.Omega.{arith}
@@ -174,7 +174,13 @@ module _ {R S : Type 0} (v : View R S) (m : Mode) (e : ℕ) where
   gnu_on : (k j : ℕ) (sp sq : Span) (ts : Tokens) → gnu_of k ≡ true → m.gnu_plus ≡ true → is_later k ≡ false → later_of k ≡ F.At j
       → tail_of m e (Listed k) (listed_leaf k sp) (token T.Plus sq ts) ≡ tail_of m e Suffixed (renamed (listed_leaf k sp) j) ts
   unfolding tail_of move_of plus_move gnu_move
-  gnu_on k j sp sq ts g p i f = rw (g, p, i, f)
+  gnu_on k j sp sq ts g p i f =
+      rw (g, i, f)
+      (ap
+      (λ (b : Bool).
+      moved (Listed k) (listed_leaf k sp) (token T.Plus sq ts) (λ n c. tail_of m e c n ts)
+      (cond b (later_move (listed_leaf k sp) sq (F.At j)) (Fails (GnuNoPlus sq))))
+      p)
 
   simply : {z : List (Sign R S)} {i : Item R S} → Simple m z i → (ts : Tokens) (r : List (Sign R S)) → signs_of v ts ≡ z ++ r → Simply ts i r
   simply (id {k} a) ts r h =

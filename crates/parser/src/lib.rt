@@ -23,7 +23,7 @@ use names::Found;
 use refusal::{Expected, Refusal, Span};
 
 // The small state of the stack reader; the stack and the nodes stand beside it in arrays.
-#[derive(Drop)]
+#[derive(Clone, Copy)]
 pub struct State {
     pub at: usize,
     pub sp: usize,

@@ -10,27 +10,26 @@ use Rattle.masks.specs.ValueLaws.{run_more, run_end}
 use Rattle.masks.proofs.evaluate.Statement.{statement}
 use Rattle.masks.proofs.evaluate.Tie as tie
 
-abbrev invariant-loop : tie.invariant-loop
+abbrev invariant-loop : tie.invariant-loop-i
 invariant-loop codes met mask st₀ i₀ st i = (i ≤ length codes) × (run (drop i codes) (drop i met) mask st ≡ run codes met mask 0)
 
-abbrev decreases-loop : tie.decreases-loop
+abbrev decreases-loop : tie.decreases-loop-i
 decreases-loop codes met mask st₀ i₀ st i = length codes - i
 
-loop-holds : tie.Need-loop-init invariant-loop decreases-loop
+loop-holds : tie.Need-loop-i-init invariant-loop decreases-loop
 loop-holds c = (omega arith, refl)
 
-loop-again : tie.Need-loop-preserved invariant-loop decreases-loop
+loop-again : tie.Need-loop-i-preserved invariant-loop decreases-loop
 loop-again c =
-    let l = c.before.before.before.before in
-    (omega arith, run_more _ _ _ _ l.loop.i _ (omega arith) (omega arith) c.next.ensures ∙ l.loop.invariant.1)
+    (omega arith, run_more _ _ _ _ c.loop-i.i _ (omega arith) (omega arith) c.next-st.ensures ∙ c.loop-i.invariant.1)
 
 returns : tie.Need-returns invariant-loop decreases-loop
 unfolding value
 returns c =
-    ap (λ (r : ℕ). eqb (r % 2) 1) (sym (run_end _ _ _ _ c.before.loop.i (omega arith)) ∙ c.before.loop.invariant.1)
+    ap (λ (r : ℕ). eqb (r % 2) 1) (sym (run_end _ _ _ _ c.loop-i.i (omega arith)) ∙ c.loop-i.invariant.1)
 
-pub evaluate-spec : {M : Type 1} → statement M
-evaluate-spec =
+pub evaluate_spec : {M : Type 1} → statement M
+evaluate_spec =
     tie.close
     (tie.spec
     invariant-loop

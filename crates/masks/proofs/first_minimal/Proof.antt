@@ -10,30 +10,30 @@ use Rattle.masks.specs.Masks.{minimal}
 use Rattle.masks.proofs.first_minimal.Statement.{statement}
 use Rattle.masks.proofs.first_minimal.Tie as tie
 
-abbrev invariant-loop : tie.invariant-loop
+abbrev invariant-loop : tie.invariant-loop-left
 invariant-loop codes met k from n m₀ left₀ m left = (m + left ≡ from + n) × (first (minimal (value codes met) k) left m ≡ first (minimal (value codes met) k) n from)
 
-abbrev decreases-loop : tie.decreases-loop
+abbrev decreases-loop : tie.decreases-loop-left
 decreases-loop codes met k from n m₀ left₀ m left = left
 
-loop-holds : tie.Need-loop-init invariant-loop decreases-loop
+loop-holds : tie.Need-loop-left-init invariant-loop decreases-loop
 loop-holds c = (omega arith, refl)
 
-returns : tie.Need-returns invariant-loop decreases-loop
+returns : tie.Need-returns-then-is_minimal invariant-loop decreases-loop
 returns c =
-    let l = c.before.before.before.loop in
-    sym (first_here _ l.left l.m (omega arith) (sym c.before.is-minimal.ensures ∙ c.if1.true)) ∙ l.invariant.1
+    let l = c.loop-left in
+    sym (first_here _ l.left l.m (omega arith) (sym c.is_minimal.ensures ∙ c.if-is_minimal.true)) ∙ l.invariant.1
 
-loop-again : tie.Need-loop-preserved invariant-loop decreases-loop
+loop-again : tie.Need-loop-left-preserved invariant-loop decreases-loop
 loop-again c =
-    let l = c.before.before.before.loop in
-    (omega arith, first_skip _ l.left _ l.m (omega arith) (sym c.before.is-minimal.ensures ∙ c.if1.false) ∙ l.invariant.1)
+    let l = c.loop-left in
+    (omega arith, first_skip _ l.left _ l.m (omega arith) (sym c.is_minimal.ensures ∙ c.if-is_minimal.false) ∙ l.invariant.1)
 
-returns-2 : tie.Need-returns-2 invariant-loop decreases-loop
-returns-2 c = let l = c.before.loop in sym (first_none _ l.left l.m (omega arith)) ∙ l.invariant.1
+returns-2 : tie.Need-returns invariant-loop decreases-loop
+returns-2 c = let l = c.loop-left in sym (first_none _ l.left l.m (omega arith)) ∙ l.invariant.1
 
-pub first-minimal-spec : {M : Type 1} → statement M
-first-minimal-spec =
+pub first_minimal_spec : {M : Type 1} → statement M
+first_minimal_spec =
     tie.close
     (tie.spec
     invariant-loop

@@ -11,31 +11,31 @@ use Rattle.masks.specs.Masks.{spare}
 use Rattle.masks.proofs.first_spare.Statement.{statement}
 use Rattle.masks.proofs.first_spare.Tie as tie
 
-abbrev invariant-loop : tie.invariant-loop
+abbrev invariant-loop : tie.invariant-loop-i
 invariant-loop codes met k mask i₀ i =
     (i ≤ k) × (first (spare (value codes met) mask) (k - i) i ≡ first (spare (value codes met) mask) k 0)
 
-abbrev decreases-loop : tie.decreases-loop
+abbrev decreases-loop : tie.decreases-loop-i
 decreases-loop codes met k mask i₀ i = k - i
 
-loop-holds : tie.Need-loop-init invariant-loop decreases-loop
+loop-holds : tie.Need-loop-i-init invariant-loop decreases-loop
 loop-holds c = (omega arith, rw sub-zero)
 
-returns : tie.Need-returns invariant-loop decreases-loop
+returns : tie.Need-returns-then-is_spare invariant-loop decreases-loop
 returns c =
-    let l = c.before.before.before.loop in
-    sym (first_here _ _ l.i (omega arith) (sym c.before.is-spare.ensures ∙ c.if1.true)) ∙ l.invariant.1
+    let l = c.loop-i in
+    sym (first_here _ _ l.i (omega arith) (sym c.is_spare.ensures ∙ c.if-is_spare.true)) ∙ l.invariant.1
 
-loop-again : tie.Need-loop-preserved invariant-loop decreases-loop
+loop-again : tie.Need-loop-i-preserved invariant-loop decreases-loop
 loop-again c =
-    let l = c.before.before.before.loop in
-    (omega arith, first_skip _ _ _ l.i (omega arith) (sym c.before.is-spare.ensures ∙ c.if1.false) ∙ l.invariant.1)
+    let l = c.loop-i in
+    (omega arith, first_skip _ _ _ l.i (omega arith) (sym c.is_spare.ensures ∙ c.if-is_spare.false) ∙ l.invariant.1)
 
-returns-2 : tie.Need-returns-2 invariant-loop decreases-loop
-returns-2 c = let l = c.before.loop in sym (first_none _ _ l.i (omega arith)) ∙ l.invariant.1
+returns-2 : tie.Need-returns invariant-loop decreases-loop
+returns-2 c = let l = c.loop-i in sym (first_none _ _ l.i (omega arith)) ∙ l.invariant.1
 
-pub first-spare-spec : {M : Type 1} → statement M
-first-spare-spec =
+pub first_spare_spec : {M : Type 1} → statement M
+first_spare_spec =
     tie.close
     (tie.spec
     invariant-loop

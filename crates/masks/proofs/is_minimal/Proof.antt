@@ -4,14 +4,14 @@ use Rattle.masks.specs.Masks.{minimal}
 use Rattle.masks.proofs.is_minimal.Statement.{statement}
 use Rattle.masks.proofs.is_minimal.Tie as tie
 
-returns : tie.Need-returns
+returns : tie.Need-returns-then-evaluate
 unfolding minimal
 returns c =
-    simp (sym c.before.before.evaluate.ensures ∙ c.before.if1.true, ← c.first-spare.ensures)
+    simp (sym c.evaluate.ensures ∙ c.if-evaluate.true, ← c.first_spare.ensures)
 
-returns-2 : tie.Need-returns-2
+returns-2 : tie.Need-returns-else-evaluate
 unfolding minimal
-returns-2 c = simp (sym c.before.evaluate.ensures ∙ c.if1.false)
+returns-2 c = simp (sym c.evaluate.ensures ∙ c.if-evaluate.false)
 
-pub is-minimal-spec : {M : Type 1} → statement M
-is-minimal-spec = tie.close (tie.spec (λ c κs. search rules) (λ c κs. search rules) returns returns-2)
+pub is_minimal_spec : {M : Type 1} → statement M
+is_minimal_spec = tie.close (tie.spec (λ c κs. search rules) (λ c κs. search rules) returns returns-2)

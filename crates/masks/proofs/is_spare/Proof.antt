@@ -7,21 +7,19 @@ use Rattle.masks.specs.Masks.{has, spare}
 use Rattle.masks.proofs.is_spare.Statement.{statement}
 use Rattle.masks.proofs.is_spare.Tie as tie
 
-sub-evaluate : tie.Need-overflow-sub-evaluate
+sub-evaluate : tie.Need-overflow_sub-mask
 sub-evaluate c =
-    let s = c.before.before.before in
-    rw (shl_one s.args.i s.requires.1) (bit_le s.args.mask s.args.i c.if1.true)
+    rw (shl_one c.args.i c.requires.1) (bit_le c.args.mask c.args.i c.if-mask-i-eq1.true)
 
-returns : tie.Need-returns
+returns : tie.Need-returns-then-mask-i-eq1
 unfolding spare has
 returns c =
-    let s = c.before.before.before.before in
-    c.evaluate.ensures ∙ simp (shl_one s.args.i s.requires.1, eq-eqb _ _ c.before.if1.true)
+    c.evaluate.ensures ∙ simp (shl_one c.args.i c.requires.1, eq-eqb _ _ c.if-mask-i-eq1.true)
 
-returns-2 : tie.Need-returns-2
+returns-2 : tie.Need-returns-else-mask-i-eq1
 unfolding spare has
-returns-2 c = simp (ne_eqb _ _ c.if1.false)
+returns-2 c = simp (ne_eqb _ _ c.if-mask-i-eq1.false)
 
-pub is-spare-spec : {M : Type 1} → statement M
-is-spare-spec =
+pub is_spare_spec : {M : Type 1} → statement M
+is_spare_spec =
     tie.close (tie.spec (λ c. search rules) (λ c. search rules) sub-evaluate (λ c κs. search rules) returns returns-2)

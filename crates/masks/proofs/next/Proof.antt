@@ -6,32 +6,32 @@ use Rattle.masks.specs.Value.{step, push, shares}
 use Rattle.masks.proofs.next.Statement.{statement}
 use Rattle.masks.proofs.next.Tie as tie
 
-returns : tie.Need-returns
+returns : tie.Need-returns-then-met-mask-eq0
 unfolding step push shares
-returns c = simp (lt-ltb _ _ c.before.if1.true, eq-eqb _ _ c.if2.true, add-zero)
+returns c = simp (lt-ltb _ _ c.if-code-lt16.true, eq-eqb _ _ c.if-met-mask-eq0.true, add-zero)
 
-returns-2 : tie.Need-returns-2
+returns-2 : tie.Need-returns-else-met-mask-eq0
 unfolding step push shares
-returns-2 c = simp (lt-ltb _ _ c.before.if1.true, ne_eqb _ _ c.if2.false)
+returns-2 c = simp (lt-ltb _ _ c.if-code-lt16.true, ne_eqb _ _ c.if-met-mask-eq0.false)
 
-returns-3 : tie.Need-returns-3
+returns-3 : tie.Need-returns-then-st-eq3
 unfolding step
-returns-3 c = simp (le-ltb _ _ c.before.before.if1.false, eq-eqb _ _ c.before.if3.true, eq-eqb _ _ c.if4.true)
+returns-3 c = simp (le-ltb _ _ c.if-code-lt16.false, eq-eqb _ _ c.if-code-eq16.true, eq-eqb _ _ c.if-st-eq3.true)
 
-returns-4 : tie.Need-returns-4
+returns-4 : tie.Need-returns-else-st-eq3
 unfolding step
-returns-4 c = simp (le-ltb _ _ c.before.before.if1.false, eq-eqb _ _ c.before.if3.true, ne_eqb _ _ c.if4.false, add-zero)
+returns-4 c = simp (le-ltb _ _ c.if-code-lt16.false, eq-eqb _ _ c.if-code-eq16.true, ne_eqb _ _ c.if-st-eq3.false, add-zero)
 
-returns-5 : tie.Need-returns-5
+returns-5 : tie.Need-returns-then-st-eq0
 unfolding step
-returns-5 c = simp (le-ltb _ _ c.before.before.if1.false, ne_eqb _ _ c.before.if3.false, eq-eqb _ _ c.if5.true, add-zero)
+returns-5 c = simp (le-ltb _ _ c.if-code-lt16.false, ne_eqb _ _ c.if-code-eq16.false, eq-eqb _ _ c.if-st-eq0.true, add-zero)
 
-returns-6 : tie.Need-returns-6
+returns-6 : tie.Need-returns-else-st-eq0
 unfolding step
-returns-6 c = simp (le-ltb _ _ c.before.before.if1.false, ne_eqb _ _ c.before.if3.false, ne_eqb _ _ c.if5.false)
+returns-6 c = simp (le-ltb _ _ c.if-code-lt16.false, ne_eqb _ _ c.if-code-eq16.false, ne_eqb _ _ c.if-st-eq0.false)
 
-pub next-spec : {M : Type 1} → statement M
-next-spec =
+pub next_spec : {M : Type 1} → statement M
+next_spec =
     tie.close
     (tie.spec
     (λ c. search rules)

@@ -5,13 +5,13 @@ use Rattle.grammar.specs.Leaves.{move_of}
 use Rattle.parser.proofs.behind.Statement.{statement}
 use Rattle.parser.proofs.behind.Tie as tie
 
-pub behind-spec : {M : Type 1} → statement M
+pub behind_spec : {M : Type 1} → statement M
 unfolding move_of
-behind-spec =
+behind_spec =
     tie.close
     (tie.spec
     (λ c κs. search rules)
     (λ c κs. search rules)
     (λ c κs. search rules)
-    (λ c. c.add.ensures ∙ sym (cond_true _ _ _ (called _ _ _ c.before.before.is-with.ensures c.before.if1.true)))
-    (λ c. c.tail.ensures ∙ sym (cond_false _ _ _ (called _ _ _ c.before.before.is-with.ensures c.before.if1.false))))
+    (λ c. c.add.ensures ∙ sym (cond_true _ _ _ (called _ _ _ c.is_with.ensures c.if-is_with.true)))
+    (λ c. c.tail.ensures ∙ sym (cond_false _ _ _ (called _ _ _ c.is_with.ensures c.if-is_with.false))))

@@ -9,7 +9,7 @@ unfolding finish_action
 finish_spec =
     tie.close
     (tie.spec
-    (λ c. simp (lt-ltb _ _ c.if1.true))
+    (λ c. simp (lt-ltb _ _ c.if-top-lt3.true))
     (λ c. search rules)
     (λ c. search rules)
-    (λ c. simp (le-ltb _ _ c.if1.false)))
+    (λ c. simp (le-ltb _ _ c.if-top-lt3.false)))

@@ -4,16 +4,15 @@ use Rattle.parser.specs.TurnLaws.{later_small}
 use Rattle.parser.proofs.gnu_plus.Statement.{statement}
 use Rattle.parser.proofs.gnu_plus.Tie as tie
 
-pub gnu-plus-spec : {M : Type 1} → statement M
+pub gnu_plus_spec : {M : Type 1} → statement M
 unfolding gnu_move
-gnu-plus-spec =
+gnu_plus_spec =
     tie.close
     (tie.spec
     (λ c κs. search rules)
-    (λ c. simp (c.before.before.if1.true, ← c.before.is_later.ensures, c.if2.true))
+    (λ c. simp (c.if-m.true, ← c.is_later.ensures, c.if-is_later.true))
     (λ c κs. search rules)
     (λ c κs. rw c.later.ensures (later_small _))
     (λ c.
-    let i = c.before.before in
-    simp (c.later2.ensures, c.before.later.ensures, i.before.before.if1.true, ← i.before.is_later.ensures, i.if2.false))
-    (λ c. simp c.if1.false))
+    simp (c.later-then-m.ensures, c.later.ensures, c.if-m.true, ← c.is_later.ensures, c.if-is_later.false))
+    (λ c. simp c.if-m.false))

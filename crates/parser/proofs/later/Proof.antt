@@ -2,12 +2,12 @@ use borrow.Author.Rules.{rules}
 use Rattle.parser.proofs.later.Statement.{statement}
 use Rattle.parser.proofs.later.Tie as tie
 
-pub later-spec : {M : Type 1} → statement M
-later-spec =
+pub later_spec : {M : Type 1} → statement M
+later_spec =
     tie.close
     (tie.spec
     (λ c. search rules)
-    (λ c κs. rw c.before.before.f.given.1 at c.before.before.before.before.requires)
+    (λ c κs. rw c.in-At.is at c.requires)
     (λ c. search rules)
-    (λ c. simp (c.narrow.ensures, c.before.before.before.f.given.1))
-    (λ c. simp c.enum_told.given.1))
+    (λ c. simp (c.narrow.ensures, c.in-At.is))
+    (λ c. simp c.in-Nothing.is))

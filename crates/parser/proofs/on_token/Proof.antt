@@ -5,9 +5,9 @@ use Rattle.parser.specs.Turn.{token_action}
 use Rattle.parser.proofs.on_token.Statement.{statement}
 use Rattle.parser.proofs.on_token.Tie as tie
 
-pub on-token-spec : {M : Type 1} → statement M
+pub on_token_spec : {M : Type 1} → statement M
 unfolding token_action
-on-token-spec =
+on_token_spec =
     tie.close
     (tie.spec
     (λ c κs. search rules)
@@ -16,10 +16,8 @@ on-token-spec =
     (λ c κs. search rules)
     (λ c κs. search rules)
     (λ c.
-    let i = c.before.before in
-    (simp (c.on-start.ensures, c.before.start_of_lem.ensures))
-    ∙ sym (cond_true _ _ _ (called _ _ _ i.before.is-expecting.ensures i.if1.true)))
+    (simp (c.on_start.ensures, c.start_of.ensures))
+    ∙ sym (cond_true _ _ _ (called _ _ _ c.is_expecting.ensures c.if-is_expecting.true)))
     (λ c.
-    let i = c.before.before in
-    (simp (c.on-move.ensures, c.before.behind.ensures))
-    ∙ sym (cond_false _ _ _ (called _ _ _ i.before.is-expecting.ensures i.if1.false))))
+    (simp (c.on_move.ensures, c.behind.ensures))
+    ∙ sym (cond_false _ _ _ (called _ _ _ c.is_expecting.ensures c.if-is_expecting.false))))

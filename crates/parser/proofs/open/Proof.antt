@@ -13,5 +13,5 @@ open_spec =
     (λ c κs. search rules)
     (λ c. search rules)
     (λ c. search rules)
-    (λ c. simp (c.before.before.narrow.ensures, lt-ltb _ _ c.before.before.before.before.if1.true))
-    (λ c. simp (le-ltb _ _ c.if1.false)))
+    (λ c. simp (c.narrow.ensures, lt-ltb _ _ c.if-st-lt32.true))
+    (λ c. simp (le-ltb _ _ c.if-st-lt32.false)))

@@ -4,15 +4,15 @@ use Rattle.grammar.specs.Grammar.{parse_of}
 use Rattle.parser.proofs.parse.Statement.{statement}
 use Rattle.parser.proofs.parse.Tie as tie
 
-pub parse-spec : {M : Type 1} → statement M
+pub parse_spec : {M : Type 1} → statement M
 unfolding parse_of
-parse-spec =
+parse_spec =
     tie.close
     (tie.spec
     (λ c κs. search rules)
     (λ c. search rules)
     (λ c κs. search rules)
     (λ c. search rules)
-    (λ c κs. called _ _ _ c.before.before.check.ensures c.enum_told.given.1)
-    (λ c. simp (c.refuse.ensures, ← c.before.before.before.before.check.ensures, c.before.before.r.given.1))
-    (λ c. simp (c.read-tokens.ensures, ← c.before.before.before.check.ensures, c.before.enum_told.given.1)))
+    (λ c κs. called _ _ _ c.check.ensures c.in-Fine.is)
+    (λ c. simp (c.refuse.ensures, ← c.check.ensures, c.in-Bad.is))
+    (λ c. simp (c.read_tokens.ensures, ← c.check.ensures, c.in-Fine.is)))

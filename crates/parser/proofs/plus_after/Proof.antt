@@ -2,8 +2,8 @@ use borrow.Author.Rules.{rules}
 use Rattle.parser.proofs.plus_after.Statement.{statement}
 use Rattle.parser.proofs.plus_after.Tie as tie
 
-pub plus-after-spec : {M : Type 1} → statement M
-plus-after-spec =
+pub plus_after_spec : {M : Type 1} → statement M
+plus_after_spec =
     tie.close
     (tie.spec
     (λ c. search rules)
@@ -15,11 +15,11 @@ plus-after-spec =
     (λ c. search rules)
     (λ c. search rules)
     (λ c. search rules)
-    (λ c. simp c.enum_told.given.1)
-    (λ c. simp c.enum-told2.given.1)
-    (λ c. simp (c.plus.ensures, c.before.before.b.given.1))
-    (λ c. simp c.enum-told3.given.1)
-    (λ c. simp c.enum-told4.given.1)
-    (λ c. simp c.enum-told5.given.1)
-    (λ c. simp c.enum-told6.given.1)
-    (λ c. simp c.enum-told7.given.1))
+    (λ c. simp c.in-Nothing.is)
+    (λ c. simp c.in-Joint.is)
+    (λ c. simp (c.plus.ensures, c.in-Listed.is))
+    (λ c. simp c.in-Term.is)
+    (λ c. simp c.in-Suffixed.is)
+    (λ c. simp c.in-With.is)
+    (λ c. simp c.in-Added.is)
+    (λ c. simp c.in-Closed.is))

@@ -3,6 +3,6 @@ use Rattle.parser.specs.Turn.{pops_of}
 use Rattle.parser.proofs.pops.Statement.{statement}
 use Rattle.parser.proofs.pops.Tie as tie
 
-pub pops-spec : {M : Type 1} → statement M
+pub pops_spec : {M : Type 1} → statement M
 unfolding pops_of
-pops-spec = tie.close (tie.spec (λ c. refl))
+pops_spec = tie.close (tie.spec (λ c. refl))

@@ -11,5 +11,5 @@ put_spec =
     (tie.spec
     (λ c. search rules)
     (λ c. search rules)
-    (λ c. simp (lt-ltb _ _ c.before.before.if1.true))
-    (λ c. simp (le-ltb _ _ c.if1.false)))
+    (λ c. simp (lt-ltb _ _ c.if-st-lt64.true))
+    (λ c. simp (le-ltb _ _ c.if-st-lt64.false)))

@@ -3,15 +3,14 @@ use Rattle.parser.specs.Turn.{rank_of}
 use Rattle.parser.proofs.rank.Statement.{statement}
 use Rattle.parser.proofs.rank.Tie as tie
 
-pub rank-spec : {M : Type 1} → statement M
+pub rank_spec : {M : Type 1} → statement M
 unfolding rank_of
-rank-spec =
+rank_spec =
     tie.close
     (tie.spec
     (λ c κs. search rules)
     (λ c κs. search rules)
     (λ c κs. search rules)
-    (λ c. simp (← c.before.before.is-expecting.ensures, ← c.before.is-with.ensures, c.if1.true))
+    (λ c. simp (← c.is_expecting.ensures, ← c.is_with.ensures, c.if-is_expecting-is_with.true))
     (λ c.
-    let i = c.before in
-    simp (c.rank-after.ensures, ← i.before.before.is-expecting.ensures, ← i.before.is-with.ensures, i.if1.false)))
+    simp (c.rank_after.ensures, ← c.is_expecting.ensures, ← c.is_with.ensures, c.if-is_expecting-is_with.false)))

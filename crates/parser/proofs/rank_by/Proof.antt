@@ -2,15 +2,15 @@ use borrow.Author.Rules.{rules}
 use Rattle.parser.proofs.rank_by.Statement.{statement}
 use Rattle.parser.proofs.rank_by.Tie as tie
 
-pub rank-by-spec : {M : Type 1} → statement M
-rank-by-spec =
+pub rank_by_spec : {M : Type 1} → statement M
+rank_by_spec =
     tie.close
     (tie.spec
     (λ c. search rules)
     (λ c. search rules)
     (λ c. search rules)
     (λ c. search rules)
-    (λ c. simp c.enum_told.given.1)
-    (λ c. simp c.enum-told2.given.1)
-    (λ c. simp c.enum-told3.given.1)
-    (λ c. simp c.enum-told4.given.1))
+    (λ c. simp c.in-And.is)
+    (λ c. simp c.in-Or.is)
+    (λ c. simp c.in-Close.is)
+    (λ c. simp c.in-Other.is))

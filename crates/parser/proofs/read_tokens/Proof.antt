@@ -27,90 +27,90 @@ use Rattle.parser.specs.Arrays.{
 use Rattle.parser.proofs.read_tokens.Statement.{statement}
 use Rattle.parser.proofs.read_tokens.Tie as tie
 
-abbrev invariant-loop2 : tie.invariant-loop2
+abbrev invariant-loop2 : tie.invariant-loop-nodes-2
 invariant-loop2 m s t e nodes₀ stack leaf st at step b rank sp₀ count₀ nodes sp count =
     Mid s m nodes stack leaf (state at sp count st.leaves st.opens b) step rank
 
-abbrev decreases-loop2 : tie.decreases-loop2
+abbrev decreases-loop2 : tie.decreases-loop-nodes-2
 decreases-loop2 m s t e nodes₀ stack leaf st at step b rank sp₀ count₀ nodes sp count = sp
 
-abbrev invariant-loop : tie.invariant-loop
+abbrev invariant-loop : tie.invariant-loop-nodes
 invariant-loop m s t e nodes₀ stack₀ leaf₀ st₀ nodes stack leaf st = Inv s m nodes stack leaf st
 
-abbrev decreases-loop : tie.decreases-loop
+abbrev decreases-loop : tie.decreases-loop-nodes
 decreases-loop m s t e nodes₀ stack₀ leaf₀ st₀ nodes stack leaf st = length s - st.at
 
 -- room for an operator's node, and a frame below it
 room : (c : tie.After-operator invariant-loop2 decreases-loop2 invariant-loop decreases-loop)
-    → (c.before.before.before.loop2.count < 127) × (0 < c.before.before.before.loop2.sp)
-room c = pop_room _ _ c.before.before.before.loop2.invariant _ c.before.before.pops.ensures c.before.if1.true
+    → (c.loop-nodes-2.count < 127) × (0 < c.loop-nodes-2.sp)
+room c = pop_room _ _ c.loop-nodes-2.invariant _ c.pops.ensures c.loop-nodes-2-test.true
 
 -- what the turn answers is right
-acts : (c : tie.After-turn invariant-loop2 decreases-loop2 invariant-loop decreases-loop) (a : Action) → c.turn.result ≡ a
-    → Does _ _ c.before.before.before.before.loop2.invariant a
+acts : (c : tie.After-turn-act invariant-loop2 decreases-loop2 invariant-loop decreases-loop) (a : Action) → c.turn-act.result ≡ a
+    → Does _ _ c.loop-nodes-2.invariant a
 acts c a w =
-    turned _ _ c.before.before.before.before.loop2.invariant _ c.before.before.before.pops.ensures
-    c.before.before.if1.false _ a c.turn.ensures w
+    turned _ _ c.loop-nodes-2.invariant _ c.pops.ensures
+    c.loop-nodes-2-test.false _ a c.turn-act.ensures w
 
-loop-holds : tie.Need-loop-init invariant-loop2 decreases-loop2 invariant-loop decreases-loop
-loop-holds c = begins c.before.before.args.s.now c.before.before.args.m _
+loop-holds : tie.Need-loop-nodes-init invariant-loop2 decreases-loop2 invariant-loop decreases-loop
+loop-holds c = begins c.args.s.now c.args.m _
 
-loop2-holds : tie.Need-loop2-init invariant-loop2 decreases-loop2 invariant-loop decreases-loop
-loop2-holds c = taken _ _ _ _ c.before.scan.ensures c.rank.ensures c.before.before.before.loop.invariant
+loop2-holds : tie.Need-loop-nodes-2-init invariant-loop2 decreases-loop2 invariant-loop decreases-loop
+loop2-holds c = taken _ _ _ _ c.scan-step.ensures c.rank-rank.ensures c.loop-nodes.invariant
 
-loop2-again : tie.Need-loop2-preserved invariant-loop2 decreases-loop2 invariant-loop decreases-loop
+loop2-again : tie.Need-loop-nodes-2-preserved invariant-loop2 decreases-loop2 invariant-loop decreases-loop
 loop2-again c =
-    pop_next _ _ c.before.before.before.loop2.invariant _ c.before.before.pops.ensures c.before.if1.true _
+    pop_next _ _ c.loop-nodes-2.invariant _ c.pops.ensures c.loop-nodes-2-test.true _
     c.operator.ensures
 
-turn-requires : tie.Need-turn-requires invariant-loop2 decreases-loop2 invariant-loop decreases-loop
+turn-requires : tie.Need-turn-act-requires invariant-loop2 decreases-loop2 invariant-loop decreases-loop
 turn-requires c κs =
-    let i = c.before.before.before.loop2.invariant in (
-      c.before.before.before.before.before.before.before.before.table.ensures,
-      mid_small _ _ i c.before.before.before.before.before.before.before.before.before.before.requires,
+    let i = c.loop-nodes-2.invariant in (
+      c.table-t.ensures,
+      mid_small _ _ i c.requires,
       omega (arith, (mid_sizes _ _ i).0),
       omega (arith, (mid_sizes _ _ i).1),
     )
 
-loop-less : tie.Need-loop-smaller invariant-loop2 decreases-loop2 invariant-loop decreases-loop
+loop-less : tie.Need-loop-nodes-smaller-in-Put invariant-loop2 decreases-loop2 invariant-loop decreases-loop
 loop-less c =
-    let d = acts c.before.before.before.before _ c.before.before.act.given.1 in omega (arith, d.ahead, d.stands.good.place)
+    let d = acts c.before.before _ c.in-Put.is in omega (arith, d.ahead, d.stands.good.place)
 
-loop-again : tie.Need-loop-preserved invariant-loop2 decreases-loop2 invariant-loop decreases-loop
+loop-again : tie.Need-loop-nodes-preserved-in-Put invariant-loop2 decreases-loop2 invariant-loop decreases-loop
 loop-again c =
-    put_next _ _ c.before.before.before.before.before.before.before.before.loop2.invariant _ _
-    (acts c.before.before.before.before _ c.before.before.act.given.1)
+    put_next _ _ c.loop-nodes-2.invariant _ _
+    (acts c.before.before _ c.in-Put.is)
 
-loop-less-2 : tie.Need-loop-smaller-2 invariant-loop2 decreases-loop2 invariant-loop decreases-loop
+loop-less-2 : tie.Need-loop-nodes-smaller-in-Push invariant-loop2 decreases-loop2 invariant-loop decreases-loop
 loop-less-2 c =
-    let d = acts c.before.before.before _ c.before.act2.given.1 in omega (arith, d.ahead, d.stands.good.place)
+    let d = acts c.before _ c.in-Push.is in omega (arith, d.ahead, d.stands.good.place)
 
-loop-again-2 : tie.Need-loop-preserved-2 invariant-loop2 decreases-loop2 invariant-loop decreases-loop
+loop-again-2 : tie.Need-loop-nodes-preserved-in-Push invariant-loop2 decreases-loop2 invariant-loop decreases-loop
 loop-again-2 c =
-    push_next _ _ c.before.before.before.before.before.before.before.loop2.invariant _ _
-    (acts c.before.before.before _ c.before.act2.given.1)
+    push_next _ _ c.loop-nodes-2.invariant _ _
+    (acts c.before _ c.in-Push.is)
 
-loop-less-3 : tie.Need-loop-smaller-3 invariant-loop2 decreases-loop2 invariant-loop decreases-loop
+loop-less-3 : tie.Need-loop-nodes-smaller invariant-loop2 decreases-loop2 invariant-loop decreases-loop
 loop-less-3 c =
-    let d = acts c.before.before.before _ c.before.act3.given.1 in omega (arith, d.ahead, d.stands.good.place)
+    let d = acts c.before _ c.in-Go.is in omega (arith, d.ahead, d.stands.good.place)
 
-loop-again-3 : tie.Need-loop-preserved-3 invariant-loop2 decreases-loop2 invariant-loop decreases-loop
+loop-again-3 : tie.Need-loop-nodes-preserved invariant-loop2 decreases-loop2 invariant-loop decreases-loop
 loop-again-3 c =
-    go_next _ _ c.before.before.before.before.before.before.before.loop2.invariant _
-    (acts c.before.before.before _ c.before.act3.given.1)
+    go_next _ _ c.loop-nodes-2.invariant _
+    (acts c.before _ c.in-Go.is)
 
-returns : tie.Need-returns invariant-loop2 decreases-loop2 invariant-loop decreases-loop
+returns : tie.Need-returns-in-Done invariant-loop2 decreases-loop2 invariant-loop decreases-loop
 returns c =
-    ends _ _ c.before.before.before.before.before.before.loop2.invariant (acts c.before.before _ c.enum_told.given.1)
+    ends _ _ c.loop-nodes-2.invariant (acts c.before _ c.in-Done.is)
 
-returns-2 : tie.Need-returns-2 invariant-loop2 decreases-loop2 invariant-loop decreases-loop
+returns-2 : tie.Need-returns-in-No invariant-loop2 decreases-loop2 invariant-loop decreases-loop
 returns-2 c =
     c.refuse.ensures
-    ∙ fails _ _ c.before.before.before.before.before.before.before.before.loop2.invariant _
-    (acts c.before.before.before.before _ c.before.before.act4.given.1)
+    ∙ fails _ _ c.loop-nodes-2.invariant _
+    (acts c.before.before _ c.in-No.is)
 
-pub read-tokens-spec : {M : Type 1} → statement M
-read-tokens-spec =
+pub read_tokens_spec : {M : Type 1} → statement M
+read_tokens_spec =
     tie.close
     (tie.spec
     invariant-loop2
@@ -120,14 +120,14 @@ read-tokens-spec =
     (λ c κs. search rules)
     loop-holds
     (λ c. search rules)
-    (λ c κs. c.before.before.table.ensures)
+    (λ c κs. c.table-t.ensures)
     (λ c κs. search rules)
     loop2-holds
-    (λ c. omega (arith, (mid_sizes _ _ c.loop2.invariant).0))
-    (λ c. (mid_sizes _ _ c.loop2.invariant).0)
+    (λ c. omega (arith, (mid_sizes _ _ c.loop-nodes-2.invariant).0))
+    (λ c. (mid_sizes _ _ c.loop-nodes-2.invariant).0)
     (λ c κs. search rules)
-    (λ c. omega (arith, (mid_sizes _ _ c.before.before.loop2.invariant).0))
-    (λ c. (mid_sizes _ _ c.before.before.loop2.invariant).0)
+    (λ c. omega (arith, (mid_sizes _ _ c.loop-nodes-2.invariant).0))
+    (λ c. (mid_sizes _ _ c.loop-nodes-2.invariant).0)
     (λ c κs. search rules)
     (λ c. omega (arith, (room c).0))
     (λ c. (room c).0)
@@ -135,19 +135,19 @@ read-tokens-spec =
     (λ c. omega (arith, (room c).1))
     (λ c. omega (arith, (room c).1))
     loop2-again
-    (λ c. omega (arith, (mid_sizes _ _ c.before.before.loop2.invariant).0))
-    (λ c. (mid_sizes _ _ c.before.before.loop2.invariant).0)
+    (λ c. omega (arith, (mid_sizes _ _ c.loop-nodes-2.invariant).0))
+    (λ c. (mid_sizes _ _ c.loop-nodes-2.invariant).0)
     (λ c. search rules)
     turn-requires
     (λ c. search rules)
-    (λ c. omega (arith, (acts c.before.before.before.before _ c.before.before.act.given.1).some))
-    (λ c. omega (arith, (acts c.before.before.before.before _ c.before.before.act.given.1).room))
-    (λ c. (acts c.before.before.before.before _ c.before.before.act.given.1).room)
+    (λ c. omega (arith, (acts c.before.before _ c.in-Put.is).some))
+    (λ c. omega (arith, (acts c.before.before _ c.in-Put.is).room))
+    (λ c. (acts c.before.before _ c.in-Put.is).room)
     loop-less
     loop-again
     (λ c. search rules)
-    (λ c. omega (arith, (acts c.before.before.before _ c.before.act2.given.1).room))
-    (λ c. (acts c.before.before.before _ c.before.act2.given.1).room)
+    (λ c. omega (arith, (acts c.before _ c.in-Push.is).room))
+    (λ c. (acts c.before _ c.in-Push.is).room)
     loop-less-2
     loop-again-2
     (λ c. search rules)

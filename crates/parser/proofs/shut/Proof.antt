@@ -4,12 +4,12 @@ use Rattle.parser.specs.Turn.{close_action}
 use Rattle.parser.proofs.shut.Statement.{statement}
 use Rattle.parser.proofs.shut.Tie as tie
 
-pub shut-spec : {M : Type 1} → statement M
+pub shut_spec : {M : Type 1} → statement M
 unfolding close_action
-shut-spec =
+shut_spec =
     tie.close
     (tie.spec
     (λ c κs. search rules)
     (λ c κs. search rules)
-    (λ c. simp (lt-ltb _ _ c.if1.true))
-    (λ c. simp (c.before.down.ensures, c.down2.ensures, le-ltb _ _ c.before.before.if1.false)))
+    (λ c. simp (lt-ltb _ _ c.if-top-lt3.true))
+    (λ c. simp (c.down.ensures, c.down-else-top-lt3.ensures, le-ltb _ _ c.if-top-lt3.false)))

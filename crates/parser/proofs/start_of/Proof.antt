@@ -2,8 +2,8 @@ use borrow.Author.Rules.{rules}
 use Rattle.parser.proofs.start_of.Statement.{statement}
 use Rattle.parser.proofs.start_of.Tie as tie
 
-pub start-of-spec : {M : Type 1} → statement M
-start-of-spec =
+pub start_of_spec : {M : Type 1} → statement M
+start_of_spec =
     tie.close
     (tie.spec
     (λ c. search rules)
@@ -13,24 +13,24 @@ start-of-spec =
     (λ c. search rules)
     (λ c. search rules)
     (λ c. search rules)
-    (λ c κs. let p = c.before.before.before.before.requires in (p.0, rw c.before.token.given.1 at p.1, p.2))
+    (λ c κs. let p = c.requires in (p.0, rw c.in-Licence.is at p.1, p.2))
     (λ c. search rules)
     (λ c. search rules)
     (λ c κs.
-    let p = c.before.before.before.before.requires in
-    let q = rw c.before.token2.given.1 at p.1 in
+    let p = c.requires in
+    let q = rw c.in-LicenseRef.is at p.1 in
     (q.0, q.1, p.2))
     (λ c. search rules)
     (λ c. search rules)
-    (λ c κs. let p = c.before.before.before.before.requires in (tt, rw c.before.token3.given.1 at p.1, p.2))
-    (λ c. simp c.enum_told.given.1)
-    (λ c. simp c.enum-told2.given.1)
-    (λ c. simp c.enum-told3.given.1)
-    (λ c. simp c.enum-told4.given.1)
-    (λ c. simp c.enum-told5.given.1)
-    (λ c. simp c.enum-told6.given.1)
-    (λ c. simp (c.named.ensures, c.before.before.token.given.1))
-    (λ c. simp c.enum-told7.given.1)
-    (λ c. simp (c.referred.ensures, c.before.before.token2.given.1))
-    (λ c. simp c.enum-told8.given.1)
-    (λ c. simp (c.referred2.ensures, c.before.before.token3.given.1)))
+    (λ c κs. let p = c.requires in (tt, rw c.in-Unknown.is at p.1, p.2))
+    (λ c. simp c.in-And.is)
+    (λ c. simp c.in-Or.is)
+    (λ c. simp c.in-With.is)
+    (λ c. simp c.in-Plus.is)
+    (λ c. simp c.in-Open.is)
+    (λ c. simp c.in-Close.is)
+    (λ c. simp (c.named.ensures, c.in-Licence.is))
+    (λ c. simp c.in-Exception.is)
+    (λ c. simp (c.referred.ensures, c.in-LicenseRef.is))
+    (λ c. simp c.in-AdditionRef.is)
+    (λ c. simp (c.referred-in-Unknown.ensures, c.in-Unknown.is)))

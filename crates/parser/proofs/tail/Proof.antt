@@ -2,8 +2,8 @@ use borrow.Author.Rules.{rules}
 use Rattle.parser.proofs.tail.Statement.{statement}
 use Rattle.parser.proofs.tail.Tie as tie
 
-pub tail-spec : {M : Type 1} → statement M
-tail-spec =
+pub tail_spec : {M : Type 1} → statement M
+tail_spec =
     tie.close
     (tie.spec
     (λ c. search rules)
@@ -19,14 +19,14 @@ tail-spec =
     (λ c. search rules)
     (λ c. search rules)
     (λ c. search rules)
-    (λ c. simp c.enum_told.given.1)
-    (λ c. simp c.enum-told2.given.1)
-    (λ c. simp (c.with-after.ensures, c.before.enum-told3.given.1))
-    (λ c. simp (c.plus-after.ensures, c.before.enum-told4.given.1))
-    (λ c. simp c.enum-told5.given.1)
-    (λ c. simp c.enum-told6.given.1)
-    (λ c. simp c.enum-told7.given.1)
-    (λ c. simp c.enum-told8.given.1)
-    (λ c. simp c.enum-told9.given.1)
-    (λ c. simp c.enum-told10.given.1)
-    (λ c. simp c.enum-told11.given.1))
+    (λ c. simp c.in-And.is)
+    (λ c. simp c.in-Or.is)
+    (λ c. simp (c.with_after.ensures, c.in-With.is))
+    (λ c. simp (c.plus_after.ensures, c.in-Plus.is))
+    (λ c. simp c.in-Open.is)
+    (λ c. simp c.in-Close.is)
+    (λ c. simp c.in-Licence.is)
+    (λ c. simp c.in-Exception.is)
+    (λ c. simp c.in-LicenseRef.is)
+    (λ c. simp c.in-AdditionRef.is)
+    (λ c. simp c.in-Unknown.is))
