@@ -1,5 +1,5 @@
 -- An operand of the annex that neither `+` nor WITH follows is read as one leaf, and the leaf is the operand's item.
-use Rattle.std.specs.Prelude.{◌≡◌, Bool, true, false, List, ◌++◌, ℕ, suc, ◌≤◌, ◌<◌}
+use Rattle.std.specs.Prelude.{◌≡◌, Bool, true, false, cond, List, ◌++◌, ℕ, suc, ◌≤◌, ◌<◌}
 use Rattle.std.proofs.Math.Path.{refl}
 use Rattle.std.proofs.Common.{sym, ap, subst, ◌∙◌, append_assoc}
 use native.Mathlib.Omega.{arith}
@@ -7,6 +7,7 @@ use Rattle.text.specs.Tests.{by_cond}
 use Rattle.names.specs.Lookup.{gnu_of, is_later, later_of}
 use Rattle.names.specs.declared.Found.TheVariants as F
 use Rattle.refusal.specs.declared.Span.{Span}
+use Rattle.refusal.specs.declared.Refusal.TheVariants.{GnuNoPlus}
 use Rattle.mode.specs.declared.Mode.{Mode}
 use Rattle.lexer.specs.declared.Doc.{Doc}
 use Rattle.lexer.specs.declared.Doc.TheVariants as D
@@ -20,7 +21,7 @@ use Rattle.grammar.specs.declared.Before.TheVariants.{Listed, Term, Suffixed, Wi
 use Rattle.grammar.specs.declared.Start.TheVariants.{Begins}
 use Rattle.grammar.specs.declared.Move.{Move}
 use Rattle.grammar.specs.declared.Move.TheVariants.{Goes, Ends, Fails}
-use Rattle.grammar.specs.Leaves.{listed_leaf, ref_leaf, plussed, renamed, with_listed, with_ref, takes_with, is_with, start_of, name_start, gnu_move, plus_move, tail_move, move_of, moved, Tail, whole, broken, tail_of}
+use Rattle.grammar.specs.Leaves.{listed_leaf, ref_leaf, plussed, renamed, later_move, with_listed, with_ref, takes_with, is_with, start_of, name_start, gnu_move, plus_move, tail_move, move_of, moved, Tail, whole, broken, tail_of}
 use Rattle.grammar.specs.Grammar.{count}
 use Rattle.annex.specs.Annex.{Named, listed, referred, Item, item, adding, Allowed, Simple, id, id_later, ref, gnu_later, term, Additions, listed_one, ref_one, term_one, term_more, Operand, bare, with}
 use Rattle.annex.specs.Signs.{View, sign_of, signs_of, item_of}

@@ -7,18 +7,15 @@ use Rattle.canonical.proofs.canonical.Statement.{statement}
 use Rattle.canonical.proofs.canonical.Tie as tie
 
 settle-requires : tie.Need-settle-requires
-settle-requires c κs = sym c.before.before.before.check.ensures ∙ c.before.enum_told.given.1
+settle-requires c κs = sym c.check.ensures ∙ c.in-Fine.is
 
-returns : tie.Need-returns
+returns : tie.Need-returns-in-Bad
 returns c =
-    let r = c.before in
-    let k = r.before.before in
-    let st = k.before.before.before in
-    refused_answer st.args.s.now st.args.out.now (canonical_of st.args.s.now) r.r.given.0.0
-    (canonical_bad st.args.s.now r.r.given.0.0 (sym k.check.ensures ∙ r.r.given.1))
+    refused_answer c.args.s.now c.args.out.now (canonical_of c.args.s.now) c.in-Bad.r
+    (canonical_bad c.args.s.now c.in-Bad.r (sym c.check.ensures ∙ c.in-Bad.is))
 
-pub canonical-spec : {M : Type 1} → statement M
-canonical-spec =
+pub canonical_spec : {M : Type 1} → statement M
+canonical_spec =
     tie.close
     (tie.spec
     (λ c κs. search rules)

@@ -13,55 +13,34 @@ use Rattle.canonical.specs.AnswerLaws.{finish_same, finish_short, finish_written
 use Rattle.canonical.proofs.finish.Statement.{statement}
 use Rattle.canonical.proofs.finish.Tie as tie
 
-returns : tie.Need-returns
+returns : tie.Need-returns-then-equal
 returns c =
-    let q = c.before in
-    let u = q.before in
-    let st = u.before.before.before.before in
-    let a = st.args in
-    finish_same a.s.now a.out.now a.draft.now a.n (cond (ltb (length a.out.now) a.n) 0 a.n) st.requires
-    q.equal.result (q.equal.ensures ∙ ap (λ (x : List ℕ). same x a.s.now) u.cut.ensures) refl c.if1.true
+    let a = c.args in
+    finish_same a.s.now a.out.now a.draft.now a.n (cond (ltb (length a.out.now) a.n) 0 a.n) c.requires
+    c.equal.result (c.equal.ensures ∙ ap (λ (x : List ℕ). same x a.s.now) c.cut.ensures) refl c.if-equal.true
 
 put-requires : tie.Need-put-requires
 put-requires c κs =
-    let f = c.before in
-    let q = f.before.before.before in
-    let u = q.before in
-    let st = u.before.before.before.before in
-    let a = st.args in
-    let r = fitting_room a.s.now a.out.now a.draft.now a.n f.fitting.result st.requires q.equal.result
-    (q.equal.ensures ∙ ap (λ (x : List ℕ). same x a.s.now) u.cut.ensures) f.fitting.ensures in
-    omega (arith, ap length c.cut2.ensures, r)
+    let a = c.args in
+    let r = fitting_room a.s.now a.out.now a.draft.now a.n c.fitting.result c.requires c.equal.result
+    (c.equal.ensures ∙ ap (λ (x : List ℕ). same x a.s.now) c.cut.ensures) c.fitting.ensures in
+    omega (arith, ap length c.cut-2.ensures, r)
 
-returns-2 : tie.Need-returns-2
+returns-2 : tie.Need-returns-then-size-n
 returns-2 c =
-    let p = c.before.before.before in
-    let u = p.before in
-    let f = u.before in
-    let i = f.before.before in
-    let q = i.before in
-    let k = q.before in
-    let st = k.before.before.before.before in
-    let a = st.args in
+    let a = c.args in
     let w =
-    finish_short a.s.now a.out.now a.draft.now a.n f.fitting.result st.requires q.equal.result
-    (q.equal.ensures ∙ ap (λ (x : List ℕ). same x a.s.now) k.cut.ensures) f.fitting.ensures i.if1.false c.if2.true in
-    (w.0, p.put.ensures.1 ∙ ap (λ (x : List ℕ). overlay 0 x a.out.now) u.cut2.ensures ∙ w.1)
+    finish_short a.s.now a.out.now a.draft.now a.n c.fitting.result c.requires c.equal.result
+    (c.equal.ensures ∙ ap (λ (x : List ℕ). same x a.s.now) c.cut.ensures) c.fitting.ensures c.if-equal.false c.if-size-n.true in
+    (w.0, c.put.ensures.1 ∙ ap (λ (x : List ℕ). overlay 0 x a.out.now) c.cut-2.ensures ∙ w.1)
 
-returns-3 : tie.Need-returns-3
+returns-3 : tie.Need-returns-else-size-n
 returns-3 c =
-    let p = c.before.before.before in
-    let u = p.before in
-    let f = u.before in
-    let i = f.before.before in
-    let q = i.before in
-    let k = q.before in
-    let st = k.before.before.before.before in
-    let a = st.args in
+    let a = c.args in
     let w =
-    finish_written a.s.now a.out.now a.draft.now a.n f.fitting.result st.requires q.equal.result
-    (q.equal.ensures ∙ ap (λ (x : List ℕ). same x a.s.now) k.cut.ensures) f.fitting.ensures i.if1.false (omega arith) in
-    (w.0, p.put.ensures.1 ∙ ap (λ (x : List ℕ). overlay 0 x a.out.now) u.cut2.ensures ∙ w.1)
+    finish_written a.s.now a.out.now a.draft.now a.n c.fitting.result c.requires c.equal.result
+    (c.equal.ensures ∙ ap (λ (x : List ℕ). same x a.s.now) c.cut.ensures) c.fitting.ensures c.if-equal.false (omega arith) in
+    (w.0, c.put.ensures.1 ∙ ap (λ (x : List ℕ). overlay 0 x a.out.now) c.cut-2.ensures ∙ w.1)
 
 pub finish_spec : {M : Type 1} → statement M
 finish_spec =

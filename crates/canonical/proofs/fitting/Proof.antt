@@ -5,11 +5,11 @@ use Rattle.text.specs.Tests.{cond_true, cond_false}
 use Rattle.canonical.proofs.fitting.Statement.{statement}
 use Rattle.canonical.proofs.fitting.Tie as tie
 
-returns : tie.Need-returns
-returns c = let a = c.before.args in sym (cond_true _ 0 a.n (lt-ltb a.size a.n c.if1.true))
+returns : tie.Need-returns-then-size-n
+returns c = let a = c.args in sym (cond_true _ 0 a.n (lt-ltb a.size a.n c.if-size-n.true))
 
-returns-2 : tie.Need-returns-2
-returns-2 c = let a = c.before.args in sym (cond_false _ 0 a.n (le-ltb a.size a.n (omega arith)))
+returns-2 : tie.Need-returns-else-size-n
+returns-2 c = let a = c.args in sym (cond_false _ 0 a.n (le-ltb a.size a.n (omega arith)))
 
-pub fitting-spec : {M : Type 1} → statement M
-fitting-spec = tie.close (tie.spec returns returns-2)
+pub fitting_spec : {M : Type 1} → statement M
+fitting_spec = tie.close (tie.spec returns returns-2)

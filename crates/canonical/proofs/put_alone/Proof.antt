@@ -8,34 +8,28 @@ use Rattle.canonical.specs.PutLaws.{alone_only, alone_itself, room_as, put_as}
 use Rattle.canonical.proofs.put_alone.Statement.{statement}
 use Rattle.canonical.proofs.put_alone.Tie as tie
 
-put-name-requires : tie.Need-put-name-requires
+put-name-requires : tie.Need-put_name-requires
 put-name-requires c κs =
-    let st = c.before.before.before.before.before.before.before in
-    let w = alone_only st.args.k _ (sym c.before.before.before.before.only.ensures ∙ c.before.before.j.given.1) in
-    (st.requires.0, w.0, room_as st.args.at _ (alone st.args.k) (length st.args.out.now) w.1 st.requires.2)
+    let w = alone_only c.args.k _ (sym c.only.ensures ∙ c.in-At.is) in
+    (c.requires.0, w.0, room_as c.args.at _ (alone c.args.k) (length c.args.out.now) w.1 c.requires.2)
 
-put-name-requires-2 : tie.Need-put-name-requires-2
+put-name-requires-2 : tie.Need-put_name-requires-in-Nothing
 put-name-requires-2 c κs =
-    let st = c.before.before.before.before.before.before in
-    let e = alone_itself st.args.k st.requires.1 (sym c.before.before.before.only.ensures ∙ c.before.enum_told.given.1) in
-    (st.requires.0, omega counts, room_as st.args.at _ (alone st.args.k) (length st.args.out.now) e st.requires.2)
+    let e = alone_itself c.args.k c.requires.1 (sym c.only.ensures ∙ c.in-Nothing.is) in
+    (c.requires.0, omega counts, room_as c.args.at _ (alone c.args.k) (length c.args.out.now) e c.requires.2)
 
-returns : tie.Need-returns
+returns : tie.Need-returns-in-At
 returns c =
-    let m = c.before.before.before.before.before.before.before in
-    let st = m.before.before.before in
-    let w = alone_only st.args.k _ (sym m.only.ensures ∙ c.before.before.before.before.before.j.given.1) in
-    put_as st.args.at _ (alone st.args.k) st.args.out.now _ _ w.1 c.before.before.put-name.ensures
+    let w = alone_only c.args.k _ (sym c.only.ensures ∙ c.in-At.is) in
+    put_as c.args.at _ (alone c.args.k) c.args.out.now _ _ w.1 c.put_name.ensures
 
-returns-2 : tie.Need-returns-2
+returns-2 : tie.Need-returns-in-Nothing
 returns-2 c =
-    let m = c.before.before.before.before.before.before in
-    let st = m.before.before.before in
-    let e = alone_itself st.args.k st.requires.1 (sym m.only.ensures ∙ c.before.before.before.before.enum_told.given.1) in
-    put_as st.args.at _ (alone st.args.k) st.args.out.now _ _ e c.before.before.put-name2.ensures
+    let e = alone_itself c.args.k c.requires.1 (sym c.only.ensures ∙ c.in-Nothing.is) in
+    put_as c.args.at _ (alone c.args.k) c.args.out.now _ _ e c.put_name-in-Nothing.ensures
 
-pub put-alone-spec : {M : Type 1} → statement M
-put-alone-spec =
+pub put_alone_spec : {M : Type 1} → statement M
+put_alone_spec =
     tie.close
     (tie.spec
     (λ c κs. search rules)

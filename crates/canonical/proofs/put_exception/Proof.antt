@@ -10,18 +10,16 @@ use Rattle.canonical.specs.PutLaws.{exception_at, room_as, put_as}
 use Rattle.canonical.proofs.put_exception.Statement.{statement}
 use Rattle.canonical.proofs.put_exception.Tie as tie
 
-put-name-requires : tie.Need-put-name-requires
+put-name-requires : tie.Need-put_name-len-requires
 put-name-requires c κs =
-    let st = c.before.before.before in
-    let w = exception_at _ st.args.k (sym listed_count) st.requires.1 in
-    (st.requires.0, w.0, room_as st.args.n _ (exception_name st.args.k) (length st.args.out.now) w.1 st.requires.2)
+    let w = exception_at _ c.args.k (sym listed_count) c.requires.1 in
+    (c.requires.0, w.0, room_as c.args.n _ (exception_name c.args.k) (length c.args.out.now) w.1 c.requires.2)
 
 returns : tie.Need-returns
 returns c =
-    let st = c.before.before.before.before.before.before in
-    let w = exception_at _ st.args.k (sym listed_count) st.requires.1 in
-    let p = put_as st.args.n _ (exception_name st.args.k) st.args.out.now _ _ w.1 c.before.before.put-name.ensures in
-    (ap (Goes st.args.e) p.0, p.1)
+    let w = exception_at _ c.args.k (sym listed_count) c.requires.1 in
+    let p = put_as c.args.n _ (exception_name c.args.k) c.args.out.now _ _ w.1 c.put_name-len.ensures in
+    (ap (Goes c.args.e) p.0, p.1)
 
-pub put-exception-spec : {M : Type 1} → statement M
-put-exception-spec = tie.close (tie.spec (λ c. omega counts) put-name-requires (λ c. search rules) returns)
+pub put_exception_spec : {M : Type 1} → statement M
+put_exception_spec = tie.close (tie.spec (λ c. omega counts) put-name-requires (λ c. search rules) returns)

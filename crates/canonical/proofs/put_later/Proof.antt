@@ -11,48 +11,40 @@ use Rattle.canonical.specs.PutLaws.{plussed_later, plussed_suffixed, room_as, ro
 use Rattle.canonical.proofs.put_later.Statement.{statement}
 use Rattle.canonical.proofs.put_later.Tie as tie
 
-put-name-requires : tie.Need-put-name-requires
+put-name-requires : tie.Need-put_name-requires
 put-name-requires c κs =
-    let st = c.before.before.before.before.before.before.before in
-    let w = plussed_later st.args.k _ (sym c.before.before.before.before.later.ensures ∙ c.before.before.j.given.1) in
-    (st.requires.0, w.0, room_as st.args.at _ (plussed st.args.k) (length st.args.out.now) w.1 st.requires.3)
+    let w = plussed_later c.args.k _ (sym c.later.ensures ∙ c.in-At.is) in
+    (c.requires.0, w.0, room_as c.args.at _ (plussed c.args.k) (length c.args.out.now) w.1 c.requires.3)
 
-put-name-requires-2 : tie.Need-put-name-requires-2
+put-name-requires-2 : tie.Need-put_name-n-requires
 put-name-requires-2 c κs =
-    let st = c.before.before.before.before.before.before in
-    let e = plussed_suffixed st.args.k st.requires.2 (sym c.before.before.before.later.ensures ∙ c.before.enum_told.given.1) in (
-      st.requires.0,
+    let e = plussed_suffixed c.args.k c.requires.2 (sym c.later.ensures ∙ c.in-Nothing.is) in (
+      c.requires.0,
       omega counts,
-      room_front st.args.at (name_at st.args.k) (ascii "-or-later") (plussed st.args.k) (length st.args.out.now) e st.requires.3,
+      room_front c.args.at (name_at c.args.k) (ascii "-or-later") (plussed c.args.k) (length c.args.out.now) e c.requires.3,
     )
 
 put-requires : tie.Need-put-requires
 put-requires c κs =
-    let m = c.before.before.before.before in
-    let st = m.before.before.before.before.before.before.before in
-    let a = st.args in
-    let e = plussed_suffixed a.k st.requires.2 (sym m.before.before.before.before.later.ensures ∙ m.before.before.enum_told.given.1) in
-    room_behind a.at (name_at a.k) (ascii "-or-later") a.out.now _ _ m.put-name2.ensures (plussed a.k) e st.requires.3
+    let a = c.args in
+    let e = plussed_suffixed a.k c.requires.2 (sym c.later.ensures ∙ c.in-Nothing.is) in
+    room_behind a.at (name_at a.k) (ascii "-or-later") a.out.now _ _ c.put_name-n.ensures (plussed a.k) e c.requires.3
 
-returns : tie.Need-returns
+returns : tie.Need-returns-in-At
 returns c =
-    let m = c.before.before.before.before.before.before.before in
-    let st = m.before.before.before in
-    let w = plussed_later st.args.k _ (sym m.later.ensures ∙ c.before.before.before.before.before.j.given.1) in
-    put_as st.args.at _ (plussed st.args.k) st.args.out.now _ _ w.1 c.before.before.put-name.ensures
+    let w = plussed_later c.args.k _ (sym c.later.ensures ∙ c.in-At.is) in
+    put_as c.args.at _ (plussed c.args.k) c.args.out.now _ _ w.1 c.put_name.ensures
 
-returns-2 : tie.Need-returns-2
+returns-2 : tie.Need-returns-in-Nothing
 returns-2 c =
-    let r = c.before.before.put.ensures in
-    let m = c.before.before.before.before.before.before.before in
-    let st = m.before.before.before.before.before.before.before in
-    let a = st.args in
-    let e = plussed_suffixed a.k st.requires.2 (sym m.before.before.before.before.later.ensures ∙ m.before.before.enum_told.given.1) in
-    put_both a.at (name_at a.k) (ascii "-or-later") a.out.now _ _ m.put-name2.ensures (plussed a.k) _ _ e (omega arith)
+    let r = c.put.ensures in
+    let a = c.args in
+    let e = plussed_suffixed a.k c.requires.2 (sym c.later.ensures ∙ c.in-Nothing.is) in
+    put_both a.at (name_at a.k) (ascii "-or-later") a.out.now _ _ c.put_name-n.ensures (plussed a.k) _ _ e (omega arith)
     (r.0, r.1)
 
-pub put-later-spec : {M : Type 1} → statement M
-put-later-spec =
+pub put_later_spec : {M : Type 1} → statement M
+put_later_spec =
     tie.close
     (tie.spec
     (λ c κs. search rules)
@@ -60,7 +52,6 @@ put-later-spec =
     put-name-requires
     (λ c. search rules)
     put-name-requires-2
-    (λ c. search rules)
     put-requires
     (λ c. search rules)
     returns

@@ -7,8 +7,8 @@ use Rattle.canonical.proofs.put_piece.Tie as tie
 
 returns : tie.Need-returns
 returns c =
-    let p = c.before.before.put.ensures in
-    (ap (Goes c.before.before.before.before.before.before.args.e) p.0, p.1)
+    let p = c.put-len.ensures in
+    (ap (Goes c.args.e) p.0, p.1)
 
-pub put-piece-spec : {M : Type 1} → statement M
-put-piece-spec = tie.close (tie.spec (λ c κs. c.before.before.before.requires) (λ c. search rules) returns)
+pub put_piece_spec : {M : Type 1} → statement M
+put_piece_spec = tie.close (tie.spec (λ c κs. c.requires) (λ c. search rules) returns)

@@ -5,25 +5,25 @@ use Rattle.text.specs.OverlayLaws.{overlay_none}
 use Rattle.canonical.proofs.put_step.Statement.{statement}
 use Rattle.canonical.proofs.put_step.Tie as tie
 
-put-token-requires : tie.Need-put-token-requires
+put-token-requires : tie.Need-put_token-requires
 put-token-requires c κs =
-    let p = c.before.before.before.before.before.before.before.requires in
-    let t = c.before.before.step2.given.1 in
+    let p = c.requires in
+    let t = c.in-Got.is in
     (p.0, rw t at p.1, rw t at p.2)
 
-returns : tie.Need-returns
-returns c = let a = c.before.before.before.before.before.args in rw c.enum_told.given.1 (refl, sym (overlay_none a.n a.out.now))
+returns : tie.Need-returns-in-Done
+returns c = let a = c.args in rw c.in-Done.is (refl, sym (overlay_none a.n a.out.now))
 
-returns-2 : tie.Need-returns-2
+returns-2 : tie.Need-returns-in-Refused
 returns-2 c =
-    let a = c.before.before.before.before.before.before.args in
-    rw c.before.step.given.1 (refl, sym (overlay_none a.n a.out.now))
+    let a = c.args in
+    rw c.in-Refused.is (refl, sym (overlay_none a.n a.out.now))
 
-returns-3 : tie.Need-returns-3
-returns-3 c = rw c.before.before.before.before.before.step2.given.1 c.before.before.put-token.ensures
+returns-3 : tie.Need-returns-in-Got
+returns-3 c = rw c.in-Got.is c.put_token.ensures
 
-pub put-step-spec : {M : Type 1} → statement M
-put-step-spec =
+pub put_step_spec : {M : Type 1} → statement M
+put_step_spec =
     tie.close
     (tie.spec
     (λ c. search rules)

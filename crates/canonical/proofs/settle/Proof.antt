@@ -13,37 +13,32 @@ use Rattle.canonical.proofs.settle.Tie as tie
 
 compose-requires : tie.Need-compose-requires
 compose-requires c κs =
-    let st = c.before.before.before in
-    (st.requires, omega (arith, fine_short st.args.s.now st.requires))
+    (c.requires, omega (arith, fine_short c.args.s.now c.requires))
 
 -- what the draft says, once it is known which it is
-said : (c : tie.After-compose) (d : Draft) → c.compose.result ≡ d → Drafted (canonical_of c.before.before.before.before.args.s.now) d c.compose.new.1.0
-said c d e = subst (λ (x : Draft). Drafted (canonical_of c.before.before.before.before.args.s.now) x c.compose.new.1.0) e c.compose.ensures
+said : (c : tie.After-compose) (d : Draft) → c.compose.result ≡ d → Drafted (canonical_of c.args.s.now) d c.compose.new.1.0
+said c d e = subst (λ (x : Draft). Drafted (canonical_of c.args.s.now) x c.compose.new.1.0) e c.compose.ensures
 
 finish-requires : tie.Need-finish-requires
 finish-requires c κs =
-    let n = c.before.before.before in
-    (said n.before.before.before (D.Text n.n.given.0.0) n.n.given.1).1
+    (said c.before.before.before.before (D.Text c.in-Text.n) c.in-Text.is).1
 
-returns : tie.Need-returns
+returns : tie.Need-returns-in-Text
 returns c =
-    let f = c.before.before in
-    let n = f.before.before.before.before in
-    let k = n.before.before.before in
+    let k = c.before.before.before.before.before.before.before in
     let st = k.before.before.before.before in
-    drafted_answer st.args.s.now st.args.out.now k.compose.new.1.0 (canonical_of st.args.s.now) n.n.given.0.0
-    f.finish.result f.finish.new.1.1.1.0 (said k (D.Text n.n.given.0.0) n.n.given.1) f.finish.ensures
+    drafted_answer st.args.s.now st.args.out.now k.compose.new.1.0 (canonical_of st.args.s.now) c.in-Text.n
+    c.finish.result c.finish.new.1.1.1.0 (said k (D.Text c.in-Text.n) c.in-Text.is) c.finish.ensures
 
-returns-2 : tie.Need-returns-2
+returns-2 : tie.Need-returns-in-Bad
 returns-2 c =
-    let r = c.before in
-    let k = r.before.before.before in
+    let k = c.before.before in
     let st = k.before.before.before.before in
-    refused_answer st.args.s.now st.args.out.now (canonical_of st.args.s.now) r.r.given.0.0
-    (said k (D.Bad r.r.given.0.0) r.r.given.1)
+    refused_answer st.args.s.now st.args.out.now (canonical_of st.args.s.now) c.in-Bad.r
+    (said k (D.Bad c.in-Bad.r) c.in-Bad.is)
 
-pub settle-spec : {M : Type 1} → statement M
-settle-spec =
+pub settle_spec : {M : Type 1} → statement M
+settle_spec =
     tie.close
     (tie.spec
     (λ c. search rules)

@@ -6,20 +6,20 @@ use Rattle.licensee.specs.TermsLaws.{reference_kind}
 use Rattle.licensee.proofs.addition_term.Statement.{statement}
 use Rattle.licensee.proofs.addition_term.Tie as tie
 
-returns : tie.Need-returns
-returns c = rw c.enum_told.given.1 (refl, tt, omega arith)
+returns : tie.Need-returns-in-Nothing
+returns c = rw c.in-Nothing.is (refl, tt, omega arith)
 
-returns-2 : tie.Need-returns-2
-returns-2 c = rw c.before.a.given.1 (refl, omega arith, omega arith)
+returns-2 : tie.Need-returns-in-Listed
+returns-2 c = rw c.in-Listed.is (refl, omega arith, omega arith)
 
-returns-3 : tie.Need-returns-3
+returns-3 : tie.Need-returns-in-Reference
 returns-3 c =
-    let r = c.reference-term.ensures in
-    let a = c.before.before.a2.given in
+    let r = c.reference_term.ensures in
+    let a = c.a-in-Reference-1.given in
     rw a.1 (r.0, (r.1, r.2), rw r.0 (reference_kind a.0.0 a.0.1.0).1)
 
-pub addition-term-spec : {M : Type 1} → statement M
-addition-term-spec =
+pub addition_term_spec : {M : Type 1} → statement M
+addition_term_spec =
     tie.close
     (tie.spec
     (λ c. search rules)

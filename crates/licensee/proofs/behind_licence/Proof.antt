@@ -5,27 +5,22 @@ use Rattle.licensee.specs.BodyLaws.{no_token, licence_none, licence_with, licenc
 use Rattle.licensee.proofs.behind_licence.Statement.{statement}
 use Rattle.licensee.proofs.behind_licence.Tie as tie
 
-returns : tie.Need-returns
+returns : tie.Need-returns-in_default
 returns c =
-    let x = c.before.before in
     c.ended.ensures
-    ∙ sym (licence_none _ _ _ _ x.before.strict.ensures x.scan.ensures _ (no_token x.scan.result c.before.match.keys2))
+    ∙ sym (licence_none _ _ _ _ c.strict.ensures c.scan-step.ensures _ (no_token c.scan-step.result c.in_default.in_default-own.keys2))
 
-returns-2 : tie.Need-returns-2
+returns-2 : tie.Need-returns-in_default-token
 returns-2 c =
-    let g = c.before.before in
-    let x = g.before.before in
-    sym (licence_other _ _ _ _ x.before.strict.ensures x.scan.ensures _ _ _ _ g.step.given.1 c.match2.keys2)
+    sym (licence_other _ _ _ _ c.strict.ensures c.scan-step.ensures _ _ _ _ c.in-Got.is c.in_default-token.in_default-token-own.keys2)
 
-returns-3 : tie.Need-returns-3
+returns-3 : tie.Need-returns
 returns-3 c =
-    let g = c.before.before.before.before in
-    let x = g.before.before in
-    c.behind-with.ensures
-    ∙ sym (licence_with _ _ _ _ x.before.strict.ensures x.scan.ensures _ _ _ _ g.step.given.1 c.before.enum_told.given.1)
+    c.behind_with.ensures
+    ∙ sym (licence_with _ _ _ _ c.strict.ensures c.scan-step.ensures _ _ _ _ c.in-Got.is c.in-With.is)
 
-pub behind-licence-spec : {M : Type 1} → statement M
-behind-licence-spec =
+pub behind_licence_spec : {M : Type 1} → statement M
+behind_licence_spec =
     tie.close
     (tie.spec
     (λ c κs. search rules)

@@ -5,36 +5,27 @@ use Rattle.licensee.specs.BodyLaws.{no_token, not_done, step_fits, with_none, wi
 use Rattle.licensee.proofs.behind_with.Statement.{statement}
 use Rattle.licensee.proofs.behind_with.Tie as tie
 
-returns : tie.Need-returns
+returns : tie.Need-returns-in_default
 returns c =
-    let x = c.before in
-    sym (with_none _ _ _ _ x.before.strict.ensures x.scan.ensures _ (no_token x.scan.result c.match.keys2))
+    sym (with_none _ _ _ _ c.strict.ensures c.scan.ensures _ (no_token c.scan.result c.in_default.in_default-own.keys2))
 
-returns-2 : tie.Need-returns-2
+returns-2 : tie.Need-returns-in_default-scan
 returns-2 c =
-    let y = c.before in
-    let g = y.before.before.before in
-    let x = g.before.before in
-    sym (with_got _ _ _ _ x.before.strict.ensures x.scan.ensures _ _ _ _ g.token.given.1
-    ∙ alone_more _ _ _ _ y.before.strict2.ensures y.scan2.ensures _ (not_done y.scan2.result c.match2.keys2))
+    sym (with_got _ _ _ _ c.strict.ensures c.scan.ensures _ _ _ _ c.in-Got.is
+    ∙ alone_more _ _ _ _ c.strict-2.ensures c.scan-2.ensures _ (not_done c.scan-2.result c.in_default-scan.in_default-scan-own.keys2))
 
-addition-in-requires : tie.Need-addition-in-requires
+addition-in-requires : tie.Need-addition_in-requires
 addition-in-requires c κs =
-    let g = c.before.before.before.before.before in
-    let x = g.before.before in
-    step_fits _ _ _ _ _ _ _ _ x.before.before.before.before.requires.1 x.scan.ensures g.token.given.1
+    step_fits _ _ _ _ _ _ _ _ c.requires.1 c.scan.ensures c.in-Got.is
 
-returns-3 : tie.Need-returns-3
+returns-3 : tie.Need-returns
 returns-3 c =
-    let y = c.before.before.before in
-    let g = y.before.before.before in
-    let x = g.before.before in
-    c.addition-in.ensures
-    ∙ sym (with_got _ _ _ _ x.before.strict.ensures x.scan.ensures _ _ _ _ g.token.given.1
-    ∙ alone_done _ _ _ _ y.before.strict2.ensures y.scan2.ensures _ c.before.enum_told.given.1)
+    c.addition_in.ensures
+    ∙ sym (with_got _ _ _ _ c.strict.ensures c.scan.ensures _ _ _ _ c.in-Got.is
+    ∙ alone_done _ _ _ _ c.strict-2.ensures c.scan-2.ensures _ c.in-Done.is)
 
-pub behind-with-spec : {M : Type 1} → statement M
-behind-with-spec =
+pub behind_with_spec : {M : Type 1} → statement M
+behind_with_spec =
     tie.close
     (tie.spec
     (λ c κs. search rules)

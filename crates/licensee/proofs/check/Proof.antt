@@ -5,18 +5,16 @@ use Rattle.licensee.specs.FileLaws.{checked_read, checked_refused}
 use Rattle.licensee.proofs.check.Statement.{statement}
 use Rattle.licensee.proofs.check.Tie as tie
 
-returns : tie.Need-returns
+returns : tie.Need-returns-in-Read
 returns c =
-    let m = c.before.before in
-    checked_read m.read.result (list_of m.before.before.before.before.args.file.now) m.read.ensures.0 c.enum_told.given.1
+    checked_read c.read-x.result (list_of c.args.file.now) c.read-x.ensures.0 c.in-Read.is
 
-returns-2 : tie.Need-returns-2
+returns-2 : tie.Need-returns-in-Refused
 returns-2 c =
-    let m = c.before.before.before in
-    checked_refused m.read.result (list_of m.before.before.before.before.args.file.now) _ m.read.ensures.0 c.before.outcome.given.1
+    checked_refused c.read-x.result (list_of c.args.file.now) _ c.read-x.ensures.0 c.in-Refused.is
 
-pub check-spec : {M : Type 1} → statement M
-check-spec =
+pub check_spec : {M : Type 1} → statement M
+check_spec =
     tie.close
     (tie.spec
     (λ c κs. search rules)

@@ -12,7 +12,7 @@ use Rattle.licensee.proofs.place.Reads as place-reads
 
 -- behind the call
 abbrev Called : Type 0
-Called = lts.After-place (place-reads.Asked, place-reads.Learnt) reads.Pre reads.Post
+Called = lts.After-place-p (place-reads.Asked, place-reads.Learnt) reads.Pre reads.Post
 
 lies : (c : Called) → Lies c.before.before.args.file.now c.before.before.args.i c.place.result
 lies c =

@@ -3,5 +3,5 @@ use borrow.Author.Rules.{rules}
 use Rattle.licensee.proofs.equals.Statement.{statement}
 use Rattle.licensee.proofs.equals.Tie as tie
 
-pub equals-spec : {M : Type 1} → statement M
-equals-spec = tie.close (tie.spec (λ c κs. search rules) (λ c. c.same-terms.ensures))
+pub equals_spec : {M : Type 1} → statement M
+equals_spec = tie.close (tie.spec (λ c κs. search rules) (λ c. c.same_terms.ensures))

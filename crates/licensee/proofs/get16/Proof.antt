@@ -4,9 +4,9 @@ use Rattle.licensee.specs.Offers.{at16}
 use Rattle.licensee.proofs.get16.Statement.{statement}
 use Rattle.licensee.proofs.get16.Tie as tie
 
-pub get16-spec : {M : Type 1} → statement M
+pub get16_spec : {M : Type 1} → statement M
 unfolding at16
-get16-spec =
+get16_spec =
     tie.close
     (tie.spec
     (λ c κs. search rules)

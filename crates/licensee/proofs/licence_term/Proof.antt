@@ -6,17 +6,17 @@ use Rattle.licensee.specs.TermsLaws.{reference_kind}
 use Rattle.licensee.proofs.licence_term.Statement.{statement}
 use Rattle.licensee.proofs.licence_term.Tie as tie
 
-returns : tie.Need-returns
-returns c = rw c.before.l.given.1 (refl, omega arith, omega arith)
+returns : tie.Need-returns-in-Listed
+returns c = rw c.in-Listed.is (refl, omega arith, omega arith)
 
-returns-2 : tie.Need-returns-2
+returns-2 : tie.Need-returns-in-Reference
 returns-2 c =
-    let r = c.reference-term.ensures in
-    let l = c.before.before.l2.given in
+    let r = c.reference_term.ensures in
+    let l = c.l-in-Reference-1.given in
     rw l.1 (r.0, (r.1, r.2), rw r.0 (reference_kind l.0.0 l.0.1.0).1)
 
-pub licence-term-spec : {M : Type 1} → statement M
-licence-term-spec =
+pub licence_term_spec : {M : Type 1} → statement M
+licence_term_spec =
     tie.close
     (tie.spec
     (λ c. search rules)

@@ -4,12 +4,12 @@ use Rattle.licensee.specs.Offers.{name_in}
 use Rattle.licensee.proofs.listed_in.Statement.{statement}
 use Rattle.licensee.proofs.listed_in.Tie as tie
 
-pub listed-in-spec : {M : Type 1} → statement M
+pub listed_in_spec : {M : Type 1} → statement M
 unfolding name_in
-listed-in-spec =
+listed_in_spec =
     tie.close
     (tie.spec
     (λ c κs. search rules)
     (λ c. search rules)
-    (λ c. simp (← c.before.deprecated.ensures, c.if1.true))
-    (λ c. simp (← c.before.deprecated.ensures, c.if1.false)))
+    (λ c. simp (← c.deprecated.ensures, c.if-deprecated.true))
+    (λ c. simp (← c.deprecated.ensures, c.if-deprecated.false)))

@@ -9,42 +9,37 @@ use Rattle.licensee.specs.FileLaws.{offer_unfit, offer_past, offer_most, offer_i
 use Rattle.licensee.proofs.offer.Statement.{statement}
 use Rattle.licensee.proofs.offer.Tie as tie
 
-returns : tie.Need-returns
+returns : tie.Need-returns-then-from-a
 returns c =
-    let s = c.before.before.before.before in
-    let a = s.args in
-    sym (offer_unfit a.file.now a.i a.a _ a.n c.before.get16.ensures.0 s.requires.3 c.if1.true)
+    let a = c.args in
+    sym (offer_unfit a.file.now a.i a.a _ a.n c.get16-from.ensures.0 c.requires.3 c.if-from-a.true)
 
-add-if2 : tie.Need-overflow-add-if2
+add-if2 : tie.Need-overflow_add-a
 add-if2 c =
-    let s = c.before.before.before.before in
-    let a = s.args in
-    omega (arith, offer_most a.file.now a.i a.a _ a.n c.before.get16.ensures.0 s.requires.3 c.if1.false)
+    let a = c.args in
+    omega (arith, offer_most a.file.now a.i a.a _ a.n c.get16-from.ensures.0 c.requires.3 c.if-from-a.false)
 
-returns-2 : tie.Need-returns-2
+returns-2 : tie.Need-returns-then-file-a
 returns-2 c =
-    let s = c.before.before.before.before.before in
-    let a = s.args in
-    sym (offer_past a.file.now a.i a.a _ a.n c.before.before.get16.ensures.0 s.requires.3 c.if2.true)
+    let a = c.args in
+    sym (offer_past a.file.now a.i a.a _ a.n c.get16-from.ensures.0 c.requires.3 c.if-file-a.true)
 
-read-body-requires : tie.Need-read-body-requires
+read-body-requires : tie.Need-read_body-requires
 unfolding part
 read-body-requires c κs =
-    let s = c.before.before.before.before.before.before in
-    let a = s.args in
-    let l = part_length a.a (a.a + a.n) a.file.now (omega arith) c.before.if2.false in
-    (s.requires.0, omega (arith, offer_most a.file.now a.i a.a _ a.n c.before.before.before.get16.ensures.0 s.requires.3 c.before.before.if1.false))
+    let a = c.args in
+    let l = part_length a.a (a.a + a.n) a.file.now (omega arith) c.if-file-a.false in
+    (c.requires.0, omega (arith, offer_most a.file.now a.i a.a _ a.n c.get16-from.ensures.0 c.requires.3 c.if-from-a.false))
 
-returns-3 : tie.Need-returns-3
+returns-3 : tie.Need-returns
 unfolding part
 returns-3 c =
-    let s = c.before.before.before.before.before.before.before in
-    let a = s.args in
-    c.read-body.ensures
-    ∙ sym (offer_in a.file.now a.i a.a _ a.n c.before.before.before.before.get16.ensures.0 s.requires.3 c.before.before.before.if1.false c.before.before.if2.false)
+    let a = c.args in
+    c.read_body.ensures
+    ∙ sym (offer_in a.file.now a.i a.a _ a.n c.get16-from.ensures.0 c.requires.3 c.if-from-a.false c.if-file-a.false)
 
-pub offer-spec : {M : Type 1} → statement M
-offer-spec =
+pub offer_spec : {M : Type 1} → statement M
+offer_spec =
     tie.close
     (tie.spec
     (λ c. search rules)

@@ -14,21 +14,19 @@ use Rattle.licensee.proofs.place.Lts as lts
 use Rattle.licensee.proofs.check.Reads as check-reads
 use Rattle.licensee.proofs.get16.Reads as get16-reads
 
-returns : tie.Need-returns
+returns : tie.Need-returns-in_default
 returns c =
-    let m = c.before.before in
-    let a = m.before.before.args in
-    sym (place_none a.file.now a.i (has_wrong a.i (list_of a.file.now) _ (sym m.check.ensures ∙ c.enum_told.given.1)))
+    let a = c.args in
+    sym (place_none a.file.now a.i (has_wrong a.i (list_of a.file.now) _ (sym c.check.ensures ∙ c.in_default.is)))
 
-returns-2 : tie.Need-returns-2
+returns-2 : tie.Need-returns-then-c-i
 returns-2 c =
-    let m = c.before.before.before.before in
-    let a = m.before.before.args in
-    sym (place_none a.file.now a.i (has_past a.i (list_of a.file.now) _ (sym m.check.ensures ∙ c.before.before.c.given.1) c.if1.true))
+    let a = c.args in
+    sym (place_none a.file.now a.i (has_past a.i (list_of a.file.now) _ (sym c.check.ensures ∙ c.in-Valid.is) c.if-c-i.true))
 
 -- behind the test of i
 abbrev Behind : Type 0
-Behind = lts.Else1 (check-reads.Asked, check-reads.Learnt, get16-reads.Asked, get16-reads.Learnt) reads.Pre reads.Post
+Behind = lts.Else-c-i (check-reads.Asked, check-reads.Learnt, get16-reads.Asked, get16-reads.Learnt) reads.Pre reads.Post
 
 abbrev file : Behind → List ℕ
 file c = c.before.before.before.before.before.before.args.file.now
@@ -39,15 +37,15 @@ entry c = c.before.before.before.before.before.before.args.i
 room : (c : Behind) → (entry c < 64) × (offset (file c) (entry c) + size (file c) (entry c) ≤ length (file c))
 room c = entry_room (file c) (entry c) _ (sym c.before.before.before.before.check.ensures ∙ c.before.before.c.given.1) c.if1.false
 
-returns-3 : tie.Need-returns-3
+returns-3 : tie.Need-returns
 unfolding offset size
 returns-3 c =
     let b = c.before.before in
     let n = place_some (file b) (entry b) (has_in (entry b) (list_of (file b)) _ (sym b.before.before.before.before.check.ensures ∙ b.before.before.c.given.1) b.if1.false) in
-    rw (c.before.get16.ensures.0, c.get162.ensures.0) (sym n)
+    rw (c.get16-from.ensures.0, c.get16-n.ensures.0) (sym n)
 
-pub place-spec : {M : Type 1} → statement M
-place-spec =
+pub place_spec : {M : Type 1} → statement M
+place_spec =
     tie.close
     (tie.spec
     (λ c κs. search rules)

@@ -4,8 +4,8 @@ use Rattle.licensee.specs.Terms.{range_number}
 use Rattle.licensee.proofs.range_number.Statement.{statement}
 use Rattle.licensee.proofs.range_number.Tie as tie
 
-pub range-number-spec : {M : Type 1} → statement M
+pub range_number_spec : {M : Type 1} → statement M
 unfolding range_number
-range-number-spec =
+range_number_spec =
     tie.close
     (tie.spec (λ c. search rules) (λ c. search rules) (λ c. search rules) (λ c. search rules) (λ c. search rules))

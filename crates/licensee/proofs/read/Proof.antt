@@ -7,15 +7,14 @@ use Rattle.licensee.specs.FileLaws.{contents_are, list_entries, list_cut}
 use Rattle.licensee.proofs.read.Statement.{statement}
 use Rattle.licensee.proofs.read.Tie as tie
 
-returns : tie.Need-returns
+returns : tie.Need-returns-then-has_contents
 returns c =
-    let m = c.before.before.before in
-    let e = list_entries _ (sym m.has-contents.ensures ∙ c.before.before.if1.true) in
-    (c.read-entries.ensures.0 ∙ ap accepted_of (sym e), rw e c.read-entries.ensures.1)
+    let e = list_entries _ (sym c.has_contents.ensures ∙ c.if-has_contents.true) in
+    (c.read_entries.ensures.0 ∙ ap accepted_of (sym e), rw e c.read_entries.ensures.1)
 
-returns-2 : tie.Need-returns-2
+returns-2 : tie.Need-returns-else-has_contents
 returns-2 c =
-    let e = list_cut _ (sym c.before.before.has-contents.ensures ∙ c.before.if1.false) in
+    let e = list_cut _ (sym c.has_contents.ensures ∙ c.if-has_contents.false) in
     (c.refuse.ensures ∙ ap accepted_of (sym e), rw e tt)
 
 pub read_spec : {M : Type 1} → statement M
@@ -23,9 +22,9 @@ read_spec =
     tie.close
     (tie.spec
     (λ c κs. search rules)
-    (λ c. omega (arith, (contents_are _ (sym c.before.before.has-contents.ensures ∙ c.before.if1.true)).some))
-    (λ c. omega (arith, c.shared-slice-known3.given 0))
-    (λ c κs. let w = contents_are _ (sym c.before.before.has-contents.ensures ∙ c.before.if1.true) in (c.before.before.before.before.before.requires, w.few, w.table))
+    (λ c. omega (arith, (contents_are _ (sym c.has_contents.ensures ∙ c.if-has_contents.true)).some))
+    (λ c. omega (arith, c.shared_slice_known-then-has_contents-1.given 0))
+    (λ c κs. let w = contents_are _ (sym c.has_contents.ensures ∙ c.if-has_contents.true) in (c.requires, w.few, w.table))
     (λ c κs. search rules)
     returns
     returns-2)

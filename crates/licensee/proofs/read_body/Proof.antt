@@ -5,59 +5,39 @@ use Rattle.licensee.specs.BodyLaws.{no_token, step_fits, body_bad, body_none, bo
 use Rattle.licensee.proofs.read_body.Statement.{statement}
 use Rattle.licensee.proofs.read_body.Tie as tie
 
-returns : tie.Need-returns
-returns c = sym (body_bad _ _ _ _ (sym c.before.before.check.ensures ∙ c.enum-told2.given.1))
+returns : tie.Need-returns-in_default
+returns c = sym (body_bad _ _ _ _ (sym c.check.ensures ∙ c.in_default.is))
 
-returns-2 : tie.Need-returns-2
+returns-2 : tie.Need-returns-in_default-scan
 returns-2 c =
-    let x = c.before in
-    let f = x.before.before in
-    sym (body_none _ _ _ (sym f.before.before.check.ensures ∙ f.enum_told.given.1) _ _ x.before.strict.ensures x.scan.ensures
-    (no_token x.scan.result c.match2.keys2))
+    sym (body_none _ _ _ (sym c.check.ensures ∙ c.in-Fine.is) _ _ c.strict.ensures c.scan.ensures
+    (no_token c.scan.result c.in_default-scan.in_default-scan-own.keys2))
 
-licence-in-requires : tie.Need-licence-in-requires
+licence-in-requires : tie.Need-licence_in-requires
 licence-in-requires c κs =
-    let g = c.before in
-    let x = g.before.before in
-    let p = x.before.before.before.before.before.before.before.requires in
-    (p.0, step_fits _ _ _ _ _ _ _ _ p.1 x.scan.ensures g.token.given.1)
+    let p = c.requires in
+    (p.0, step_fits _ _ _ _ _ _ _ _ p.1 c.scan.ensures c.in-Got.is)
 
-returns-3 : tie.Need-returns-3
+returns-3 : tie.Need-returns-in_default-licence_in
 returns-3 c =
-    let l = c.before.before in
-    let g = l.before.before in
-    let x = g.before.before in
-    let f = x.before.before in
-    sym (body_got _ _ _ (sym f.before.before.check.ensures ∙ f.enum_told.given.1) _ _ x.before.strict.ensures x.scan.ensures
-    _ _ _ g.token.given.1
-    ∙ simp (← l.licence-in.ensures, c.enum-told3.given.1))
+    sym (body_got _ _ _ (sym c.check.ensures ∙ c.in-Fine.is) _ _ c.strict.ensures c.scan.ensures
+    _ _ _ c.in-Got.is
+    ∙ simp (← c.licence_in.ensures, c.in_default-licence_in.is))
 
-returns-4 : tie.Need-returns-4
+returns-4 : tie.Need-returns-in_default-behind_licence
 returns-4 c =
-    let b = c.before.before in
-    let k = b.before.before in
-    let l = k.before.before in
-    let g = l.before.before in
-    let x = g.before.before in
-    let f = x.before.before in
-    sym (body_got _ _ _ (sym f.before.before.check.ensures ∙ f.enum_told.given.1) _ _ x.before.strict.ensures x.scan.ensures
-    _ _ _ g.token.given.1
-    ∙ simp (← l.licence-in.ensures, k.licence.given.1, ← b.behind-licence.ensures, c.enum-told4.given.1))
+    sym (body_got _ _ _ (sym c.check.ensures ∙ c.in-Fine.is) _ _ c.strict.ensures c.scan.ensures
+    _ _ _ c.in-Got.is
+    ∙ simp (← c.licence_in.ensures, c.in-Is.is, ← c.behind_licence.ensures, c.in_default-behind_licence.is))
 
-returns-5 : tie.Need-returns-5
+returns-5 : tie.Need-returns
 returns-5 c =
-    let b = c.before.before.before in
-    let k = b.before.before in
-    let l = k.before.before in
-    let g = l.before.before in
-    let x = g.before.before in
-    let f = x.before.before in
-    sym (body_got _ _ _ (sym f.before.before.check.ensures ∙ f.enum_told.given.1) _ _ x.before.strict.ensures x.scan.ensures
-    _ _ _ g.token.given.1
-    ∙ simp (← l.licence-in.ensures, k.licence.given.1, ← b.behind-licence.ensures, c.before.addition.given.1))
+    sym (body_got _ _ _ (sym c.check.ensures ∙ c.in-Fine.is) _ _ c.strict.ensures c.scan.ensures
+    _ _ _ c.in-Got.is
+    ∙ simp (← c.licence_in.ensures, c.in-Is.is, ← c.behind_licence.ensures, c.in-Is-behind_licence.is))
 
-pub read-body-spec : {M : Type 1} → statement M
-read-body-spec =
+pub read_body_spec : {M : Type 1} → statement M
+read_body_spec =
     tie.close
     (tie.spec
     (λ c κs. search rules)

@@ -8,53 +8,51 @@ use Rattle.licensee.specs.FileLaws.{Walk, walk_start, walk_on, walk_wrong, walk_
 use Rattle.licensee.proofs.read_entries.Statement.{statement}
 use Rattle.licensee.proofs.read_entries.Tie as tie
 
-abbrev invariant-loop : tie.invariant-loop
+abbrev invariant-loop : tie.invariant-loop-i
 invariant-loop t file c kinds₀ licences₀ additions₀ i₀ a₀ kinds licences additions i a = Walk file c kinds licences additions i a
 
-abbrev decreases-loop : tie.decreases-loop
+abbrev decreases-loop : tie.decreases-loop-i
 decreases-loop t file c kinds₀ licences₀ additions₀ i₀ a₀ kinds licences additions i a = c - i
 
-loop-holds : tie.Need-loop-init invariant-loop decreases-loop
-loop-holds c = walk_start _ _ c.before.before.requires.1
+loop-holds : tie.Need-loop-i-init invariant-loop decreases-loop
+loop-holds c = walk_start _ _ c.requires.1
 
 offer-requires : tie.Need-offer-requires invariant-loop decreases-loop
-offer-requires c κs = (c.before.before.before.before.before.requires.0, omega arith, omega arith, c.get16.ensures.0)
+offer-requires c κs = (c.requires.0, omega arith, omega arith, c.get16-n.ensures.0)
 
-returns : tie.Need-returns invariant-loop decreases-loop
+returns : tie.Need-returns-in-Refused invariant-loop decreases-loop
 returns c =
-    let o = c.before.before.before.before.offer in
-    let m = c.before.before.before.before.before.before in
-    let e = walk_wrong m.before.loop.invariant _ m.loop-test.true (sym o.ensures ∙ c.before.before.r.given.1) in
+    let o = c.offer in
+    let e = walk_wrong c.loop-i.invariant _ c.loop-i-test.true (sym o.ensures ∙ c.in-Refused.is) in
     (c.refuse.ensures ∙ ap accepted_of (sym e), rw e tt)
 
-loop-again : tie.Need-loop-preserved invariant-loop decreases-loop
+loop-again : tie.Need-loop-i-preserved invariant-loop decreases-loop
 loop-again c =
-    let x = c.terms-of in
-    let m = c.before.before.before.before.before in
+    let x = c.terms_of-x in
     walk_on
-    m.before.before.loop.invariant
+    c.loop-i.invariant
     _
     x.result
-    m.get16.result
-    m.before.before.before.before.before.requires.1
-    m.before.loop-test.true
+    c.get16-n.result
+    c.requires.1
+    c.loop-i-test.true
     x.ensures.0
-    m.get16.ensures.0
-    (sym c.before.before.before.before.offer.ensures ∙ c.before.before.l.given.1)
+    c.get16-n.ensures.0
+    (sym c.offer.ensures ∙ c.in-Is.is)
     (x.ensures.1, x.ensures.2)
 
-returns-2 : tie.Need-returns-2 invariant-loop decreases-loop
+returns-2 : tie.Need-returns-then-a-file invariant-loop decreases-loop
 returns-2 c =
-    let e = walk_after c.before.before.before.loop.invariant c.before.before.loop-test.false c.before.if1.true in
-    (c.refuse2.ensures ∙ ap accepted_of (sym e), rw e tt)
+    let e = walk_after c.loop-i.invariant c.loop-i-test.false c.if-a-file.true in
+    (c.refuse-then-a-file.ensures ∙ ap accepted_of (sym e), rw e tt)
 
-returns-3 : tie.Need-returns-3 invariant-loop decreases-loop
+returns-3 : tie.Need-returns invariant-loop decreases-loop
 returns-3 c =
-    let w = c.before.before.loop.invariant in
-    (walk_read w c.before.loop-test.false c.if1.false, walk_small w c.before.loop-test.false c.if1.false)
+    let w = c.loop-i.invariant in
+    (walk_read w c.loop-i-test.false c.if-a-file.false, walk_small w c.loop-i-test.false c.if-a-file.false)
 
-pub read-entries-spec : {M : Type 1} → statement M
-read-entries-spec =
+pub read_entries_spec : {M : Type 1} → statement M
+read_entries_spec =
     tie.close
     (tie.spec
     invariant-loop

@@ -4,16 +4,16 @@ use borrow.Author.Rules.{rules}
 use Rattle.licensee.proofs.reference_term.Statement.{statement}
 use Rattle.licensee.proofs.reference_term.Tie as tie
 
-returns : tie.Need-returns
-returns c = rw (c.before.enum_told.given.1, c.range-number.ensures.0) (refl, tt, c.range-number.ensures.1)
+returns : tie.Need-returns-in-Absent
+returns c = rw (c.in-Absent.is, c.range_number.ensures.0) (refl, tt, c.range_number.ensures.1)
 
-returns-2 : tie.Need-returns-2
+returns-2 : tie.Need-returns-in-At
 returns-2 c =
-    rw (c.before.before.before.doc.given.1, c.before.range-number2.ensures.0, c.range-number3.ensures.0)
-    (refl, c.range-number3.ensures.1, c.before.range-number2.ensures.1)
+    rw (c.in-At.is, c.range_number-in-At.ensures.0, c.range_number-in-At-2.ensures.0)
+    (refl, c.range_number-in-At-2.ensures.1, c.range_number-in-At.ensures.1)
 
-pub reference-term-spec : {M : Type 1} → statement M
-reference-term-spec =
+pub reference_term_spec : {M : Type 1} → statement M
+reference_term_spec =
     tie.close
     (tie.spec
     (λ c. search rules)

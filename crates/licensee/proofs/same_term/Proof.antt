@@ -23,42 +23,39 @@ module _ (f s : List ℕ) (k x y : ℕ) (some : k ≡ 0 → ⊥) (other : k ≡ 
       go false true = refl
       go false false = refl
 
-returns-3 : tie.Need-returns-3
+returns-3 : tie.Need-returns-then-not-same_names
 returns-3 c =
-    let i = c.before.before in
-    let n = c.before.same_names in
+    let n = c.same_names in
     rw (
-      reference _ _ _ _ _ i.before.if1.false i.if2.false,
+      reference _ _ _ _ _ c.if-kind-eq0.false c.if-kind-eq1.false,
       ← n.ensures,
-      not-true n.result c.if3.true,
+      not-true n.result c.if-not-same_names.true,
     )
 
-returns-4 : tie.Need-returns-4
+returns-4 : tie.Need-returns-then-kind-eq2
 returns-4 c =
-    let i = c.before.before.before in
-    let n = c.before.before.same_names in
+    let n = c.same_names in
     rw (
-      reference _ _ _ _ _ i.before.if1.false i.if2.false,
+      reference _ _ _ _ _ c.if-kind-eq0.false c.if-kind-eq1.false,
       ← n.ensures,
-      not-false n.result c.before.if3.false,
-      eq-eqb _ _ c.if4.true,
+      not-false n.result c.if-not-same_names.false,
+      eq-eqb _ _ c.if-kind-eq2.true,
     )
 
-returns-5 : tie.Need-returns-5
+returns-5 : tie.Need-returns
 returns-5 c =
-    let i = c.before.before.before.before in
-    let n = c.before.before.before.same_names in
+    let n = c.same_names in
     rw (
-      reference _ _ _ _ _ i.before.if1.false i.if2.false,
+      reference _ _ _ _ _ c.if-kind-eq0.false c.if-kind-eq1.false,
       ← n.ensures,
-      not-false n.result c.before.before.if3.false,
-      ne_eqb _ _ c.before.if4.false,
+      not-false n.result c.if-not-same_names.false,
+      ne_eqb _ _ c.if-kind-eq2.false,
     )
-    c.same-documents.ensures
+    c.same_documents.ensures
 
-pub same-term-spec : {M : Type 1} → statement M
+pub same_term_spec : {M : Type 1} → statement M
 unfolding same_term
-same-term-spec =
+same_term_spec =
     tie.close
     (tie.spec
     (λ c. search tests)

@@ -6,18 +6,16 @@ use Rattle.licensee.specs.Terms.{same_terms}
 use Rattle.licensee.proofs.same_terms.Statement.{statement}
 use Rattle.licensee.proofs.same_terms.Tie as tie
 
-returns-2 : tie.Need-returns-2
+returns-2 : tie.Need-returns-then-same_term
 unfolding same_terms
 returns-2 c =
-    let i = c.before.before.before in
-    rw (eq-eqb _ _ i.before.before.if1.false, ← i.same-term.ensures, c.before.before.if2.true) c.same-term2.ensures
+    rw (eq-eqb _ _ c.if-a-b.false, ← c.same_term.ensures, c.if-same_term.true) c.same_term-then-same_term.ensures
 
-returns-3 : tie.Need-returns-3
+returns-3 : tie.Need-returns-else-same_term
 unfolding same_terms
 returns-3 c =
-    let i = c.before in
-    rw (eq-eqb _ _ i.before.before.if1.false, ← i.same-term.ensures, c.if2.false)
+    rw (eq-eqb _ _ c.if-a-b.false, ← c.same_term.ensures, c.if-same_term.false)
 
-pub same-terms-spec : {M : Type 1} → statement M
+pub same_terms_spec : {M : Type 1} → statement M
 unfolding same_terms
-same-terms-spec = tie.close (tie.spec (λ c. search tests) (λ c κs. search rules) (λ c κs. search rules) returns-2 returns-3)
+same_terms_spec = tie.close (tie.spec (λ c. search tests) (λ c κs. search rules) (λ c κs. search rules) returns-2 returns-3)

@@ -4,6 +4,6 @@ use Rattle.licensee.specs.Terms.{meets}
 use Rattle.licensee.proofs.satisfies.Statement.{statement}
 use Rattle.licensee.proofs.satisfies.Tie as tie
 
-pub satisfies-spec : {M : Type 1} → statement M
+pub satisfies_spec : {M : Type 1} → statement M
 unfolding meets
-satisfies-spec = tie.close (tie.spec (λ c κs. search rules) (λ c. c.same-terms.ensures))
+satisfies_spec = tie.close (tie.spec (λ c κs. search rules) (λ c. c.same_terms.ensures))

@@ -7,10 +7,10 @@ use Rattle.licensee.proofs.terms_of.Tie as tie
 returns : tie.Need-returns
 unfolding terms_of
 returns c =
-    let l = c.before.before.before.licence-term.ensures in
-    let a = c.before.before.addition-term.ensures in
+    let l = c.licence_term-l.ensures in
+    let a = c.addition_term-a.ensures in
     (rw (← l.0, ← a.0), l.1, a.1)
 
-pub terms-of-spec : {M : Type 1} → statement M
-terms-of-spec =
+pub terms_of_spec : {M : Type 1} → statement M
+terms_of_spec =
     tie.close (tie.spec (λ c κs. search rules) (λ c κs. search rules) (λ c. search rules) (λ c. search rules) returns)

@@ -4,11 +4,11 @@ use Rattle.packed.specs.Records.{cell}
 use Rattle.packed.proofs.cells.cell_of.Statement.{statement}
 use Rattle.packed.proofs.cells.cell_of.Tie as tie
 
-returns : tie.Need-returns
+returns : tie.Need-returns-then-x-lt65536
 unfolding cell
 returns c = search tests
 
-returns_2 : tie.Need-returns-2
+returns_2 : tie.Need-returns-else-x-lt65536
 unfolding cell
 returns_2 c = search tests
 

@@ -3,31 +3,28 @@ use borrow.Author.Rules.{rules}
 use Rattle.packed.proofs.cells.named.Statement.{statement}
 use Rattle.packed.proofs.cells.named.Tie as tie
 
-returns : tie.Need-returns
+returns : tie.Need-returns-in-Absent
 returns c =
-    let e = c.before.before in
     simp (
-      c.enum_told.given.1,
-      e.cell-of5.ensures,
-      e.before.cell-of4.ensures,
-      e.before.before.cell-of3.ensures,
-      e.before.before.before.cell-of2.ensures,
-      e.before.before.before.before.cell-of.ensures,
+      c.in-Absent.is,
+      c.cell_of-after.ensures,
+      c.cell_of-end.ensures,
+      c.cell_of-start.ensures,
+      c.cell_of-e.ensures,
+      c.cell_of-a.ensures,
     )
 
-returns_2 : tie.Need-returns-2
+returns_2 : tie.Need-returns-in-Part
 returns_2 c =
-    let d = c.before.before.before in
-    let e = d.before.before in
     simp (
-      d.doc.given.1,
-      c.cell-of7.ensures,
-      c.before.cell-of6.ensures,
-      e.cell-of5.ensures,
-      e.before.cell-of4.ensures,
-      e.before.before.cell-of3.ensures,
-      e.before.before.before.cell-of2.ensures,
-      e.before.before.before.before.cell-of.ensures,
+      c.in-Part.is,
+      c.cell_of-in-Part.ensures,
+      c.cell_of.ensures,
+      c.cell_of-after.ensures,
+      c.cell_of-end.ensures,
+      c.cell_of-start.ensures,
+      c.cell_of-e.ensures,
+      c.cell_of-a.ensures,
     )
 
 pub named_spec : {M : Type 1} → statement M

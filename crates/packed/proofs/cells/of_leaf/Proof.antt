@@ -6,9 +6,7 @@ use Rattle.packed.proofs.cells.of_leaf.Tie as tie
 
 returns : tie.Need-returns
 returns c =
-    let x = c.before in
-    let a = x.before in
-    leaf_spread a.before.before.args.l a.of-licence.result x.of-addition.result a.of-licence.ensures x.of-addition.ensures
+    leaf_spread c.args.l c.of_licence-a.result c.of_addition-x.result c.of_licence-a.ensures c.of_addition-x.ensures
 
 pub of_leaf_spec : {M : Type 1} → statement M
 of_leaf_spec =

@@ -9,5 +9,5 @@ of_licence_spec =
     (λ c. search rules)
     (λ c. search rules)
     (λ c κs. search rules)
-    (λ c. simp c.before.x.given.1)
-    (λ c. simp (c.of-reference.ensures, c.before.before.x2.given.1)))
+    (λ c. simp c.in-Listed.is)
+    (λ c. simp (c.of_reference.ensures, c.in-Reference.is)))

@@ -8,5 +8,5 @@ of_reference_spec =
     (tie.spec
     (λ c. search rules)
     (λ c. search rules)
-    (λ c. simp c.enum_told.given.1)
-    (λ c. simp c.before.doc.given.1))
+    (λ c. simp c.in-Absent.is)
+    (λ c. simp c.in-At.is))

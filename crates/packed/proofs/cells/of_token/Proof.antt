@@ -4,50 +4,46 @@ use Rattle.packed.specs.Records.{cell}
 use Rattle.packed.proofs.cells.of_token.Statement.{statement}
 use Rattle.packed.proofs.cells.of_token.Tie as tie
 
-returns : tie.Need-returns
+returns : tie.Need-returns-in-And
 unfolding cell
-returns c = let e = c.before.before in simp (c.enum_told.given.1, e.cell-of3.ensures, e.before.cell-of2.ensures, e.before.before.cell-of.ensures)
+returns c = simp (c.in-And.is, c.cell_of-after.ensures, c.cell_of-end.ensures, c.cell_of-start.ensures)
 
-returns_2 : tie.Need-returns-2
+returns_2 : tie.Need-returns-in-Or
 unfolding cell
-returns_2 c = let e = c.before.before in simp (c.enum-told2.given.1, e.cell-of3.ensures, e.before.cell-of2.ensures, e.before.before.cell-of.ensures)
+returns_2 c = simp (c.in-Or.is, c.cell_of-after.ensures, c.cell_of-end.ensures, c.cell_of-start.ensures)
 
-returns_3 : tie.Need-returns-3
+returns_3 : tie.Need-returns-in-With
 unfolding cell
-returns_3 c = let e = c.before.before in simp (c.enum-told3.given.1, e.cell-of3.ensures, e.before.cell-of2.ensures, e.before.before.cell-of.ensures)
+returns_3 c = simp (c.in-With.is, c.cell_of-after.ensures, c.cell_of-end.ensures, c.cell_of-start.ensures)
 
-returns_4 : tie.Need-returns-4
+returns_4 : tie.Need-returns-in-Plus
 unfolding cell
-returns_4 c = let e = c.before.before in simp (c.enum-told4.given.1, e.cell-of3.ensures, e.before.cell-of2.ensures, e.before.before.cell-of.ensures)
+returns_4 c = simp (c.in-Plus.is, c.cell_of-after.ensures, c.cell_of-end.ensures, c.cell_of-start.ensures)
 
-returns_5 : tie.Need-returns-5
+returns_5 : tie.Need-returns-in-Open
 unfolding cell
-returns_5 c = let e = c.before.before in simp (c.enum-told5.given.1, e.cell-of3.ensures, e.before.cell-of2.ensures, e.before.before.cell-of.ensures)
+returns_5 c = simp (c.in-Open.is, c.cell_of-after.ensures, c.cell_of-end.ensures, c.cell_of-start.ensures)
 
-returns_6 : tie.Need-returns-6
+returns_6 : tie.Need-returns-in-Close
 unfolding cell
-returns_6 c = let e = c.before.before in simp (c.enum-told6.given.1, e.cell-of3.ensures, e.before.cell-of2.ensures, e.before.before.cell-of.ensures)
+returns_6 c = simp (c.in-Close.is, c.cell_of-after.ensures, c.cell_of-end.ensures, c.cell_of-start.ensures)
 
-returns_7 : tie.Need-returns-7
+returns_7 : tie.Need-returns-in-Licence
 returns_7 c =
-    let k = c.before.before in
-    let e = k.before.before in
-    simp (k.token.given.1, c.cell-of4.ensures, e.cell-of3.ensures, e.before.cell-of2.ensures, e.before.before.cell-of.ensures)
+    simp (c.in-Licence.is, c.cell_of.ensures, c.cell_of-after.ensures, c.cell_of-end.ensures, c.cell_of-start.ensures)
 
-returns_8 : tie.Need-returns-8
+returns_8 : tie.Need-returns-in-Exception
 returns_8 c =
-    let k = c.before.before in
-    let e = k.before.before in
-    simp (k.token2.given.1, c.cell-of5.ensures, e.cell-of3.ensures, e.before.cell-of2.ensures, e.before.before.cell-of.ensures)
+    simp (c.in-Exception.is, c.cell_of-in-Exception.ensures, c.cell_of-after.ensures, c.cell_of-end.ensures, c.cell_of-start.ensures)
 
-returns_9 : tie.Need-returns-9
-returns_9 c = simp (c.named.ensures, c.before.before.token3.given.1)
+returns_9 : tie.Need-returns-in-LicenseRef
+returns_9 c = simp (c.named.ensures, c.in-LicenseRef.is)
 
-returns_10 : tie.Need-returns-10
-returns_10 c = simp (c.named2.ensures, c.before.before.token4.given.1)
+returns_10 : tie.Need-returns-in-AdditionRef
+returns_10 c = simp (c.named-in-AdditionRef.ensures, c.in-AdditionRef.is)
 
-returns_11 : tie.Need-returns-11
-returns_11 c = simp (c.named3.ensures, c.before.before.token5.given.1)
+returns_11 : tie.Need-returns-in-Unknown
+returns_11 c = simp (c.named-in-Unknown.ensures, c.in-Unknown.is)
 
 pub of_token_spec : {M : Type 1} → statement M
 of_token_spec =

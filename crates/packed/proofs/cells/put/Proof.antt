@@ -8,25 +8,25 @@ use Rattle.text.specs.OverlayLaws.{Writing, writing_start, writing_on, writing_e
 use Rattle.packed.proofs.cells.put.Statement.{statement}
 use Rattle.packed.proofs.cells.put.Tie as tie
 
-abbrev invariant_loop : tie.invariant_loop
+abbrev invariant_loop : tie.invariant-loop-i
 invariant_loop out₀ at p i₀ out i = Writing at p out₀ out i
 
-abbrev decreases_loop : tie.decreases_loop
+abbrev decreases_loop : tie.decreases-loop-i
 decreases_loop out₀ at p i₀ out i = length p - i
 
-loop_holds : tie.Need-loop-init invariant_loop decreases_loop
+loop_holds : tie.Need-loop-i-init invariant_loop decreases_loop
 loop_holds c = writing_start c.args.at c.args.p.now c.args.out.now
 
-loop_again : tie.Need-loop-preserved invariant_loop decreases_loop
+loop_again : tie.Need-loop-i-preserved invariant_loop decreases_loop
 loop_again c =
-    let a = c.before.before.before.args in
-    let l = c.before.before.loop in
+    let a = c.args in
+    let l = c.loop-i in
     writing_on a.at a.p.now a.out.now l.out l.i _ (omega arith) (omega arith) refl l.invariant
 
 returns : tie.Need-returns invariant_loop decreases_loop
 returns c =
-    let a = c.before.before.args in
-    let l = c.before.loop in
+    let a = c.args in
+    let l = c.loop-i in
     writing_end a.at a.p.now a.out.now l.out l.i (omega arith) l.invariant
 
 pub put_spec : {M : Type 1} → statement M
@@ -40,9 +40,9 @@ put_spec =
     (λ c. search rules)
     (λ c. search rules)
     (λ c. search rules)
-    (λ c. omega (arith, c.before.before.loop.invariant.2))
+    (λ c. omega (arith, c.loop-i.invariant.2))
     (λ c. search rules)
     (λ c. omega arith)
     loop_again
-    (λ c. c.before.loop.invariant.2)
+    (λ c. c.loop-i.invariant.2)
     returns)

@@ -9,42 +9,42 @@ use borrow.Author.Rules.{rules}
 use Rattle.packed.proofs.pack.refused.Statement.{statement}
 use Rattle.packed.proofs.pack.refused.Tie as tie
 
-returns : tie.Need-returns
+returns : tie.Need-returns-in-Nothing
 unfolding refused_as
 returns c =
-    let n = c.before.before.before.number in
-    let l = c.before.before.last-column in
-    let r = c.before.before.before.before.args.r in
+    let n = c.number-n in
+    let l = c.last_column in
+    let r = c.args.r in
     let z : number_of r ≡ number_of r + 0 = omega arith in
-    n.ensures ∙ z ∙ ap (λ (x : Column). number_of r + column_as x) (sym c.enum_told.given.1 ∙ l.ensures)
+    n.ensures ∙ z ∙ ap (λ (x : Column). number_of r + column_as x) (sym c.in-Nothing.is ∙ l.ensures)
 
-returns_2 : tie.Need-returns-2
+returns_2 : tie.Need-returns-in-Place
 unfolding refused_as
 returns_2 c =
-    let n = c.before.before.before.before.before.number in
-    let l = c.before.before.before.before.last-column in
-    rw (n.ensures, c.two-places.ensures.0) (ap (λ (x : Column). number_of c.before.before.before.before.before.before.args.r + column_as x) (sym c.before.before.s.given.1 ∙ l.ensures))
+    let n = c.number-n in
+    let l = c.last_column in
+    rw (n.ensures, c.two_places.ensures.0) (ap (λ (x : Column). number_of c.args.r + column_as x) (sym c.in-Place.is ∙ l.ensures))
 
-returns_3 : tie.Need-returns-3
+returns_3 : tie.Need-returns-in-PlaceAndSet
 unfolding refused_as
 returns_3 c =
-    let n = c.before.before.before.before.before.before.number in
-    let l = c.before.before.before.before.before.last-column in
-    rw (n.ensures, c.two-places2.ensures.0, c.before.set.ensures)
-    (omega arith ∙ ap (λ (x : Column). number_of c.before.before.before.before.before.before.before.args.r + column_as x) (sym c.before.before.before.s2.given.1 ∙ l.ensures))
+    let n = c.number-n in
+    let l = c.last_column in
+    rw (n.ensures, c.two_places-in-PlaceAndSet.ensures.0, c.set.ensures)
+    (omega arith ∙ ap (λ (x : Column). number_of c.args.r + column_as x) (sym c.in-PlaceAndSet.is ∙ l.ensures))
 
-returns_4 : tie.Need-returns-4
+returns_4 : tie.Need-returns-in-Number
 unfolding refused_as
 returns_4 c =
-    let n = c.before.before.before.before.before.number in
-    let l = c.before.before.before.before.last-column in
-    rw (n.ensures, c.clipped.ensures.0) (ap (λ (x : Column). number_of c.before.before.before.before.before.before.args.r + column_as x) (sym c.before.before.x.given.1 ∙ l.ensures))
+    let n = c.number-n in
+    let l = c.last_column in
+    rw (n.ensures, c.clipped.ensures.0) (ap (λ (x : Column). number_of c.args.r + column_as x) (sym c.in-Number.is ∙ l.ensures))
 
-add_result : tie.Need-overflow-add-result
-add_result c = record { fits = omega (arith, c.two-places.ensures.1, c.before.before.before.before.before.number.type-inv) }
+add_result : tie.Need-overflow_add-result
+add_result c = record { fits = omega (arith, c.two_places.ensures.1, c.number-n.type_inv) }
 
-add_result_3 : tie.Need-overflow-add-result-3
-add_result_3 c = record { fits = omega (arith, c.two-places2.ensures.1) }
+add_result_3 : tie.Need-overflow_add-result-in-PlaceAndSet-2
+add_result_3 c = record { fits = omega (arith, c.two_places-in-PlaceAndSet.ensures.1) }
 
 pub refused_spec : {M : Type 1} → statement M
 refused_spec =

@@ -8,8 +8,8 @@ use Rattle.packed.proofs.pack.two_places.Tie as tie
 returns : tie.Need-returns
 unfolding places
 returns c =
-    let a = c.before.clipped in
-    let b = c.clipped2 in
+    let a = c.clipped in
+    let b = c.clipped-2 in
     (rw (a.ensures.0, b.ensures.0) refl, omega (arith, a.ensures.1, b.ensures.1))
 
 pub two_places_spec : {M : Type 1} → statement M
