@@ -33,7 +33,7 @@ put-step-requires c κs =
 comes : (c : tie.After-put_step-done invariant-loop decreases-loop) (u : Turn) → c.put_step-done.result ≡ u
     → Outcome c.args.s.now
     c.args.out.now
-    c.loop-next.at c.loop-next.n u c.put_step-done.new.1.1.1.0
+    c.loop-next.at c.loop-next.n u c.put_step-done.new.out
 comes c u g =
     drafting_turn _ _ _ _ _ c.loop-next.invariant
     c.requires.1 _

@@ -16,8 +16,8 @@ compose-requires c κs =
     (c.requires, omega (arith, fine_short c.args.s.now c.requires))
 
 -- what the draft says, once it is known which it is
-said : (c : tie.After-compose) (d : Draft) → c.compose.result ≡ d → Drafted (canonical_of c.args.s.now) d c.compose.new.1.0
-said c d e = subst (λ (x : Draft). Drafted (canonical_of c.args.s.now) x c.compose.new.1.0) e c.compose.ensures
+said : (c : tie.After-compose) (d : Draft) → c.compose.result ≡ d → Drafted (canonical_of c.args.s.now) d c.compose.new.out
+said c d e = subst (λ (x : Draft). Drafted (canonical_of c.args.s.now) x c.compose.new.out) e c.compose.ensures
 
 finish-requires : tie.Need-finish-requires
 finish-requires c κs =
@@ -27,8 +27,8 @@ returns : tie.Need-returns-in-Text
 returns c =
     let k = c.before.before.before.before.before.before.before in
     let st = k.before.before.before.before in
-    drafted_answer st.args.s.now st.args.out.now k.compose.new.1.0 (canonical_of st.args.s.now) c.in-Text.n
-    c.finish.result c.finish.new.1.1.1.0 (said k (D.Text c.in-Text.n) c.in-Text.is) c.finish.ensures
+    drafted_answer st.args.s.now st.args.out.now k.compose.new.out (canonical_of st.args.s.now) c.in-Text.n
+    c.finish.result c.finish.new.out (said k (D.Text c.in-Text.n) c.in-Text.is) c.finish.ensures
 
 returns-2 : tie.Need-returns-in-Bad
 returns-2 c =

@@ -15,8 +15,8 @@ returns-2 c = rw c.in-Listed.is (refl, omega arith, omega arith)
 returns-3 : tie.Need-returns-in-Reference
 returns-3 c =
     let r = c.reference_term.ensures in
-    let a = c.a-in-Reference-1.given in
-    rw a.1 (r.0, (r.1, r.2), rw r.0 (reference_kind a.0.0 a.0.1.0).1)
+    let a = c.in-Reference in
+    rw a.is (r.0, (r.1, r.2), rw r.0 (reference_kind a.doc a.name).1)
 
 pub addition_term_spec : {M : Type 1} → statement M
 addition_term_spec =

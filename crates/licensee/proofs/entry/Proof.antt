@@ -14,10 +14,10 @@ use Rattle.licensee.proofs.place.Reads as place-reads
 abbrev Called : Type 0
 Called = lts.After-place-p (place-reads.Asked, place-reads.Learnt) reads.Pre reads.Post
 
-lies : (c : Called) → Lies c.before.before.args.file.now c.before.before.args.i c.place.result
+lies : (c : Called) → Lies c.args.file.now c.args.i c.place-p.result
 lies c =
-    let a = c.before.before.args in
-    subst (Lies a.file.now a.i) (sym c.place.ensures) (place_part a.file.now a.i)
+    let a = c.args in
+    subst (Lies a.file.now a.i) (sym c.place-p.ensures) (place_part a.file.now a.i)
 
 returns : tie.Need-returns
 unfolding part

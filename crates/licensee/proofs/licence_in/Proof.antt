@@ -18,7 +18,7 @@ range-from-requires c κs =
     let p = rw c.in-LicenseRef.is at c.requires.1 in p.1
 
 returns : tie.Need-returns-in-Licence
-returns c = simp (c.Listed-in.ensures, c.in-Licence.is)
+returns c = simp (c.listed_in.ensures, c.in-Licence.is)
 
 returns-2 : tie.Need-returns-in-LicenseRef
 returns-2 c = simp (c.range_from.ensures, c.part_from.ensures, c.in-LicenseRef.is)

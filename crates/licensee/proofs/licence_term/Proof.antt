@@ -12,8 +12,8 @@ returns c = rw c.in-Listed.is (refl, omega arith, omega arith)
 returns-2 : tie.Need-returns-in-Reference
 returns-2 c =
     let r = c.reference_term.ensures in
-    let l = c.l-in-Reference-1.given in
-    rw l.1 (r.0, (r.1, r.2), rw r.0 (reference_kind l.0.0 l.0.1.0).1)
+    let l = c.in-Reference in
+    rw l.is (r.0, (r.1, r.2), rw r.0 (reference_kind l.doc l.name).1)
 
 pub licence_term_spec : {M : Type 1} → statement M
 licence_term_spec =

@@ -29,19 +29,19 @@ abbrev Behind : Type 0
 Behind = lts.Else-c-i (check-reads.Asked, check-reads.Learnt, get16-reads.Asked, get16-reads.Learnt) reads.Pre reads.Post
 
 abbrev file : Behind → List ℕ
-file c = c.before.before.before.before.before.before.args.file.now
+file c = c.args.file.now
 
 abbrev entry : Behind → ℕ
-entry c = c.before.before.before.before.before.before.args.i
+entry c = c.args.i
 
 room : (c : Behind) → (entry c < 64) × (offset (file c) (entry c) + size (file c) (entry c) ≤ length (file c))
-room c = entry_room (file c) (entry c) _ (sym c.before.before.before.before.check.ensures ∙ c.before.before.c.given.1) c.if1.false
+room c = entry_room (file c) (entry c) _ (sym c.check.ensures ∙ c.in-Valid.is) c.if-c-i.false
 
 returns-3 : tie.Need-returns
 unfolding offset size
 returns-3 c =
     let b = c.before.before in
-    let n = place_some (file b) (entry b) (has_in (entry b) (list_of (file b)) _ (sym b.before.before.before.before.check.ensures ∙ b.before.before.c.given.1) b.if1.false) in
+    let n = place_some (file b) (entry b) (has_in (entry b) (list_of (file b)) _ (sym c.check.ensures ∙ c.in-Valid.is) c.if-c-i.false) in
     rw (c.get16-from.ensures.0, c.get16-n.ensures.0) (sym n)
 
 pub place_spec : {M : Type 1} → statement M

@@ -29,7 +29,7 @@ returns-3 c =
     rw (
       reference _ _ _ _ _ c.if-kind-eq0.false c.if-kind-eq1.false,
       ← n.ensures,
-      not-true n.result c.if-not-same_names.true,
+      c.if-not-same_names.true,
     )
 
 returns-4 : tie.Need-returns-then-kind-eq2
@@ -38,7 +38,7 @@ returns-4 c =
     rw (
       reference _ _ _ _ _ c.if-kind-eq0.false c.if-kind-eq1.false,
       ← n.ensures,
-      not-false n.result c.if-not-same_names.false,
+      c.if-not-same_names.false,
       eq-eqb _ _ c.if-kind-eq2.true,
     )
 
@@ -48,7 +48,7 @@ returns-5 c =
     rw (
       reference _ _ _ _ _ c.if-kind-eq0.false c.if-kind-eq1.false,
       ← n.ensures,
-      not-false n.result c.if-not-same_names.false,
+      c.if-not-same_names.false,
       ne_eqb _ _ c.if-kind-eq2.false,
     )
     c.same_documents.ensures

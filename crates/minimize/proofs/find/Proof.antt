@@ -34,7 +34,7 @@ loop-again c =
     let l = d.before.before.before.before.before.before.loop in
     let v = l.invariant in
     let w = sym d.before.is-wanted.ensures ∙ d.if1.true in
-    let n = sym c.before.is_Known.ensures ∙ not-true _ c.if2.true in
+    let n = sym c.before.is_Known.ensures ∙ c.if2.true in
     let t = found_new _ _ _ _ _ _ l.i _ v.2 _ l.k v.6 w n (omega arith) in (
       omega arith,
       omega arith,
@@ -52,7 +52,7 @@ loop-again-2 c =
     let l = d.before.before.before.before.before.before.loop in
     let v = l.invariant in
     let w = sym d.before.is-wanted.ensures ∙ d.if1.true in
-    let n = sym c.before.is_Known.ensures ∙ not-false _ c.if2.false in
+    let n = sym c.before.is_Known.ensures ∙ c.if2.false in
     let t = found_known _ _ _ _ _ _ l.i _ v.2 _ l.k v.6 w n in
     (omega arith, omega arith, t.0, v.3, v.4, v.5, t.1, v.7)
 
