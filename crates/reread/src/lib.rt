@@ -1,3 +1,2 @@
 // Laws only: the canonical text, read again in STRICT.
 #![tactic(auto)]
-

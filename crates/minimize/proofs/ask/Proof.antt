@@ -12,26 +12,25 @@ use Rattle.minimize.specs.AskLaws.{ask_fits, ask_asks}
 use Rattle.minimize.proofs.ask.Statement.{statement}
 use Rattle.minimize.proofs.ask.Tie as tie
 
-abbrev invariant-loop : tie.invariant-loop
+abbrev invariant-loop : tie.invariant-loop-i
 invariant-loop s kinds₀ licences₀ additions₀ p count i₀ kinds licences additions i =
     (i ≤ p.count) × (triples kinds licences additions i ≡ map node_terms (take i p.nodes)) × SmallNodes (take i p.nodes)
     × (length kinds ≡ 127) × (length licences ≡ 127) × (length additions ≡ 127) × (p.count ≤ 127) × (length p.nodes ≡ 127)
 
-abbrev decreases-loop : tie.decreases-loop
+abbrev decreases-loop : tie.decreases-loop-i
 decreases-loop s kinds₀ licences₀ additions₀ p count i₀ kinds licences additions i = count - i
 
-loop-holds : tie.Need-loop-init invariant-loop decreases-loop
+loop-holds : tie.Need-loop-i-init invariant-loop decreases-loop
 unfolding triples
 loop-holds c =
-    let start = c.before.before in
-    let f = ask_fits start.args.s.now start.args.m c.parse.result c.parse.ensures in
-    (omega arith, refl, tt, start.requires.0, start.requires.1, start.requires.2, f.0, f.1)
+    let f = ask_fits c.args.s.now c.args.m c.parse-p.result c.parse-p.ensures in
+    (omega arith, refl, tt, c.requires.0, c.requires.1, c.requires.2, f.0, f.1)
 
-loop-again : tie.Need-loop-preserved invariant-loop decreases-loop
+loop-again : tie.Need-loop-i-preserved invariant-loop decreases-loop
 loop-again c =
-    let l = c.before.before.before.loop in
+    let l = c.loop-i in
     let v = l.invariant in
-    let t = c.terms-in in (
+    let t = c.terms_in-x in (
       omega arith,
       triples_push _ _ _ l.i _ _ _ (omega arith) (omega arith) (omega arith) ∙ asked_next _ l.i _ (omega arith) _ _ v.1 t.ensures.0,
       small_next _ l.i _ (omega arith) v.2 t.ensures.1,
@@ -44,16 +43,15 @@ loop-again c =
 
 returns : tie.Need-returns invariant-loop decreases-loop
 returns c =
-    let l = c.before.before.loop in
+    let l = c.loop-i in
     let v = l.invariant in
-    let p = c.before.before.before.parse in
-    let start = c.before.before.before.before.before in
+    let p = c.parse-p in
     let e : l.i ≡ p.result.count = omega arith in
-    ask_asks start.args.s.now start.args.m p.result p.ensures _ _ _ _
+    ask_asks c.args.s.now c.args.m p.result p.ensures _ _ _ _
     (c.told.ensures, rw e at v.1, rw e at v.2, (v.3, v.4, v.5))
 
-pub ask-spec : {M : Type 1} → statement M
-ask-spec =
+pub ask_spec : {M : Type 1} → statement M
+ask_spec =
     tie.close
     (tie.spec
     invariant-loop

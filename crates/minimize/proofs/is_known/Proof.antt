@@ -11,34 +11,32 @@ use Rattle.minimize.specs.TripleLaws.{some_at, some_none_step}
 use Rattle.minimize.proofs.is_known.Statement.{statement}
 use Rattle.minimize.proofs.is_known.Tie as tie
 
-abbrev invariant-loop : tie.invariant-loop
+abbrev invariant-loop : tie.invariant-loop-i
 invariant-loop f l kinds licences additions k i₀ i = (i ≤ k) × (some_of (same_terms f f l) (triples kinds licences additions i) ≡ false)
 
-abbrev decreases-loop : tie.decreases-loop
+abbrev decreases-loop : tie.decreases-loop-i
 decreases-loop f l kinds licences additions k i₀ i = k - i
 
-loop-holds : tie.Need-loop-init invariant-loop decreases-loop
+loop-holds : tie.Need-loop-i-init invariant-loop decreases-loop
 unfolding some_of triples
 loop-holds c = (omega arith, refl)
 
-returns : tie.Need-returns invariant-loop decreases-loop
+returns : tie.Need-returns-then-equals invariant-loop decreases-loop
 returns c =
-    let m = c.before.before.before.before.before in
-    sym (some_at _ _ _ _ _ m.before.loop.i m.loop-test.true (sym c.before.equals.ensures ∙ c.if1.true))
+    sym (some_at _ _ _ _ _ c.loop-i.i c.loop-i-test.true (sym c.equals.ensures ∙ c.if-equals.true))
 
-loop-again : tie.Need-loop-preserved invariant-loop decreases-loop
+loop-again : tie.Need-loop-i-preserved invariant-loop decreases-loop
 loop-again c =
-    let m = c.before.before.before.before.before.before in
-    (omega arith, some_none_step _ _ _ _ m.loop.i m.loop.invariant.1 (sym c.before.equals.ensures ∙ c.if1.false))
+    (omega arith, some_none_step _ _ _ _ c.loop-i.i c.loop-i.invariant.1 (sym c.equals.ensures ∙ c.if-equals.false))
 
-returns-2 : tie.Need-returns-2 invariant-loop decreases-loop
+returns-2 : tie.Need-returns invariant-loop decreases-loop
 returns-2 c =
-    let l = c.before.loop in
-    let e : l.i ≡ c.before.before.before.before.before.before.args.k = omega arith in
+    let l = c.loop-i in
+    let e : l.i ≡ c.args.k = omega arith in
     sym (rw e at l.invariant.1)
 
-pub is-known-spec : {M : Type 1} → statement M
-is-known-spec =
+pub is_known_spec : {M : Type 1} → statement M
+is_known_spec =
     tie.close
     (tie.spec
     invariant-loop

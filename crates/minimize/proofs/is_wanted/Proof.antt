@@ -11,34 +11,32 @@ use Rattle.minimize.specs.TripleLaws.{some_at, some_none_step}
 use Rattle.minimize.proofs.is_wanted.Statement.{statement}
 use Rattle.minimize.proofs.is_wanted.Tie as tie
 
-abbrev invariant-loop : tie.invariant-loop
+abbrev invariant-loop : tie.invariant-loop-i
 invariant-loop f l s kinds licences additions n i₀ i = (i ≤ n) × (some_of (meets f s l) (triples kinds licences additions i) ≡ false)
 
-abbrev decreases-loop : tie.decreases-loop
+abbrev decreases-loop : tie.decreases-loop-i
 decreases-loop f l s kinds licences additions n i₀ i = n - i
 
-loop-holds : tie.Need-loop-init invariant-loop decreases-loop
+loop-holds : tie.Need-loop-i-init invariant-loop decreases-loop
 unfolding some_of triples
 loop-holds c = (omega arith, refl)
 
-returns : tie.Need-returns invariant-loop decreases-loop
+returns : tie.Need-returns-then-satisfies invariant-loop decreases-loop
 returns c =
-    let m = c.before.before.before.before.before in
-    sym (some_at _ _ _ _ _ m.before.loop.i m.loop-test.true (sym c.before.satisfies.ensures ∙ c.if1.true))
+    sym (some_at _ _ _ _ _ c.loop-i.i c.loop-i-test.true (sym c.satisfies.ensures ∙ c.if-satisfies.true))
 
-loop-again : tie.Need-loop-preserved invariant-loop decreases-loop
+loop-again : tie.Need-loop-i-preserved invariant-loop decreases-loop
 loop-again c =
-    let m = c.before.before.before.before.before.before in
-    (omega arith, some_none_step _ _ _ _ m.loop.i m.loop.invariant.1 (sym c.before.satisfies.ensures ∙ c.if1.false))
+    (omega arith, some_none_step _ _ _ _ c.loop-i.i c.loop-i.invariant.1 (sym c.satisfies.ensures ∙ c.if-satisfies.false))
 
-returns-2 : tie.Need-returns-2 invariant-loop decreases-loop
+returns-2 : tie.Need-returns invariant-loop decreases-loop
 returns-2 c =
-    let l = c.before.loop in
-    let e : l.i ≡ c.before.before.before.before.before.before.before.args.n = omega arith in
+    let l = c.loop-i in
+    let e : l.i ≡ c.args.n = omega arith in
     sym (rw e at l.invariant.1)
 
-pub is-wanted-spec : {M : Type 1} → statement M
-is-wanted-spec =
+pub is_wanted_spec : {M : Type 1} → statement M
+is_wanted_spec =
     tie.close
     (tie.spec
     invariant-loop

@@ -4,15 +4,12 @@ use Rattle.minimize.specs.ProblemLaws.{poses_unlisted}
 use Rattle.minimize.proofs.pose_read.Statement.{statement}
 use Rattle.minimize.proofs.pose_read.Tie as tie
 
-returns : tie.Need-returns
+returns : tie.Need-returns-in-Refused
 returns c =
-    let o = c.before in
-    let m = o.before.before in
-    let start = m.before.before.before.before.before.before.before.before in
-    poses_unlisted start.args.file.now start.args.s.now m.read.result _ m.read.ensures.0 o.outcome.given.1 _ _ _ _ _ _
+    poses_unlisted c.args.file.now c.args.s.now c.read-a.result _ c.read-a.ensures.0 c.in-Refused.is _ _ _ _ _ _
 
-pub pose-read-spec : {M : Type 1} → statement M
-pose-read-spec =
+pub pose_read_spec : {M : Type 1} → statement M
+pose_read_spec =
     tie.close
     (tie.spec
     (λ c κs. search rules)

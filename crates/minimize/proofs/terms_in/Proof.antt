@@ -4,22 +4,22 @@ use borrow.Author.Rules.{rules}
 use Rattle.minimize.proofs.terms_in.Statement.{statement}
 use Rattle.minimize.proofs.terms_in.Tie as tie
 
-returns : tie.Need-returns
-returns c = rw c.enum_told.given.1 (refl, tt)
+returns : tie.Need-returns-in-Blank
+returns c = rw c.in-Blank.is (refl, tt)
 
-returns-2 : tie.Need-returns-2
+returns-2 : tie.Need-returns-in-Leaf
 returns-2 c =
-    let e = c.terms-of.ensures in
-    rw c.before.before.k.given.1 (e.0, (e.1, e.2))
+    let e = c.terms_of.ensures in
+    rw c.in-Leaf.is (e.0, (e.1, e.2))
 
-returns-3 : tie.Need-returns-3
-returns-3 c = rw c.enum-told2.given.1 (refl, tt)
+returns-3 : tie.Need-returns-in-And
+returns-3 c = rw c.in-And.is (refl, tt)
 
-returns-4 : tie.Need-returns-4
-returns-4 c = rw c.enum-told3.given.1 (refl, tt)
+returns-4 : tie.Need-returns-in-Or
+returns-4 c = rw c.in-Or.is (refl, tt)
 
-pub terms-in-spec : {M : Type 1} → statement M
-terms-in-spec =
+pub terms_in_spec : {M : Type 1} → statement M
+terms_in_spec =
     tie.close
     (tie.spec
     (λ c. search rules)
