@@ -9,22 +9,22 @@ use borrow.Author.Rules.{rules}
 use Rattle.terminal.proofs.put_name.Statement.{statement}
 use Rattle.terminal.proofs.put_name.Tie as tie
 
-returns : tie.Need-returns
+returns : tie.Need-returns-then-out-n
 returns c =
-    let a = c.before.before.before.before.before.before.args in
-    let l = c.before.before.name-len.ensures in
-    let f = name_small (name_at a.k) a.out.now (omega (arith, l, c.before.if1.true)) in
+    let a = c.args in
+    let l = c.name_len-n.ensures in
+    let f = name_small (name_at a.k) a.out.now (omega (arith, l, c.if-out-n.true)) in
     (c.small.ensures ∙ ap small_as l ∙ sym f.0, sym f.1)
 
-returns-2 : tie.Need-returns-2
+returns-2 : tie.Need-returns
 returns-2 c =
-    let a = c.before.before.before.before.before.before.before.before.before.before.before.args in
-    let l = c.before.before.before.before.before.before.before.name-len.ensures in
-    let f = name_fits (name_at a.k) a.out.now (omega (arith, l, c.before.before.before.before.before.before.if1.false)) in
-    (c.answered.ensures ∙ ap (answered_as 0) l ∙ sym f.0, c.before.before.before.put-name.ensures.1 ∙ sym f.1)
+    let a = c.args in
+    let l = c.name_len-n.ensures in
+    let f = name_fits (name_at a.k) a.out.now (omega (arith, l, c.if-out-n.false)) in
+    (c.answered.ensures ∙ ap (answered_as 0) l ∙ sym f.0, c.put_name.ensures.1 ∙ sym f.1)
 
-pub put-name-spec : {M : Type 1} → statement M
-put-name-spec =
+pub put_name_spec : {M : Type 1} → statement M
+put_name_spec =
     tie.close
     (tie.spec
     (λ c κs. search rules)

@@ -5,23 +5,23 @@ use borrow.Author.Rules.{rules}
 use Rattle.terminal.proofs.tasgilfrem_canonical.Statement.{statement}
 use Rattle.terminal.proofs.tasgilfrem_canonical.Tie as tie
 
-returns : tie.Need-returns
+returns : tie.Need-returns-in-Unchanged
 returns c =
-    let k = c.before.before.before.before.before.canonical in
-    (c.answered.ensures ∙ ap canonical_as (sym c.before.enum_told.given.1 ∙ k.ensures.0), k.ensures.1)
+    let k = c.canonical in
+    (c.answered.ensures ∙ ap canonical_as (sym c.in-Unchanged.is ∙ k.ensures.0), k.ensures.1)
 
-returns-2 : tie.Need-returns-2
+returns-2 : tie.Need-returns-in-Written
 returns-2 c =
-    let k = c.before.before.before.before.before.before.canonical in
-    (c.answered2.ensures ∙ ap canonical_as (sym c.before.before.n.given.1 ∙ k.ensures.0), k.ensures.1)
+    let k = c.canonical in
+    (c.answered-in-Written.ensures ∙ ap canonical_as (sym c.in-Written.is ∙ k.ensures.0), k.ensures.1)
 
-returns-3 : tie.Need-returns-3
+returns-3 : tie.Need-returns-in-Refused
 returns-3 c =
-    let k = c.before.before.before.before.before.before.canonical in
-    (c.refused.ensures ∙ ap canonical_as (sym c.before.before.r.given.1 ∙ k.ensures.0), k.ensures.1)
+    let k = c.canonical in
+    (c.refused.ensures ∙ ap canonical_as (sym c.in-Refused.is ∙ k.ensures.0), k.ensures.1)
 
-pub tasgilfrem-canonical-spec : {M : Type 1} → statement M
-tasgilfrem-canonical-spec =
+pub tasgilfrem_canonical_spec : {M : Type 1} → statement M
+tasgilfrem_canonical_spec =
     tie.close
     (tie.spec
     (λ c κs. search rules)

@@ -4,17 +4,17 @@ use borrow.Author.Rules.{rules}
 use Rattle.terminal.proofs.tasgilfrem_choice.Statement.{statement}
 use Rattle.terminal.proofs.tasgilfrem_choice.Tie as tie
 
-returns : tie.Need-returns
-returns c = simp (← c.before.before.before.before.before.of.ensures, ← c.before.before.before.before.choice.ensures, c.before.before.m.given.1) (c.answered.ensures, refl)
+returns : tie.Need-returns-in-Mask
+returns c = simp (← c.of.ensures, ← c.choice.ensures, c.in-Mask.is) (c.answered.ensures, refl)
 
-returns-2 : tie.Need-returns-2
-returns-2 c = simp (← c.before.before.before.before.before.of.ensures, ← c.before.before.before.before.choice.ensures, c.before.before.p.given.1) (c.answered2.ensures, refl)
+returns-2 : tie.Need-returns-in-Paused
+returns-2 c = simp (← c.of.ensures, ← c.choice.ensures, c.in-Paused.is) (c.answered-in-Paused.ensures, refl)
 
-returns-3 : tie.Need-returns-3
-returns-3 c = simp (← c.before.before.before.before.before.of.ensures, ← c.before.before.before.before.choice.ensures, c.before.before.r.given.1) (c.refused.ensures, refl)
+returns-3 : tie.Need-returns-in-Refused
+returns-3 c = simp (← c.of.ensures, ← c.choice.ensures, c.in-Refused.is) (c.refused.ensures, refl)
 
-pub tasgilfrem-choice-spec : {M : Type 1} → statement M
-tasgilfrem-choice-spec =
+pub tasgilfrem_choice_spec : {M : Type 1} → statement M
+tasgilfrem_choice_spec =
     tie.close
     (tie.spec
     (λ c κs. search rules)

@@ -11,25 +11,25 @@ use borrow.Author.Rules.{rules}
 use Rattle.terminal.proofs.tasgilfrem_entry.Statement.{statement}
 use Rattle.terminal.proofs.tasgilfrem_entry.Tie as tie
 
-sub-n : tie.Need-overflow-sub-n
+sub-n : tie.Need-overflow_sub-n
 sub-n c =
-    let a = c.before.before.before.args in
-    subst (λ (p : Span). p.start ≤ p.end) (sym c.before.place.ensures) (place_part a.file.now a.index).0
+    let a = c.args in
+    subst (λ (p : Span). p.start ≤ p.end) (sym c.place-place.ensures) (place_part a.file.now a.index).0
 
-returns : tie.Need-returns
+returns : tie.Need-returns-then-n-eq0
 unfolding entry_as
 returns c =
-    let p = c.before.before.place in
-    sym (cond_true (eqb (p.result.end - p.result.start) 0) _ _ (eq-eqb _ 0 c.if1.true)) ∙ ap entry_as p.ensures
+    let p = c.place-place in
+    sym (cond_true (eqb (p.result.end - p.result.start) 0) _ _ (eq-eqb _ 0 c.if-n-eq0.true)) ∙ ap entry_as p.ensures
 
-returns-2 : tie.Need-returns-2
+returns-2 : tie.Need-returns
 unfolding entry_as
 returns-2 c =
-    let p = c.before.before.before.place in
-    rw c.two-places.ensures.0 (sym (cond_false (eqb (p.result.end - p.result.start) 0) _ _ (ne_eqb _ 0 c.before.if1.false)) ∙ ap entry_as p.ensures)
+    let p = c.place-place in
+    rw c.two_places.ensures.0 (sym (cond_false (eqb (p.result.end - p.result.start) 0) _ _ (ne_eqb _ 0 c.if-n-eq0.false)) ∙ ap entry_as p.ensures)
 
-pub tasgilfrem-entry-spec : {M : Type 1} → statement M
-tasgilfrem-entry-spec =
+pub tasgilfrem_entry_spec : {M : Type 1} → statement M
+tasgilfrem_entry_spec =
     tie.close
     (tie.spec
     (λ c κs. search rules)
