@@ -4,7 +4,7 @@ use Rattle.std.specs.Prelude.{ℕ, ◌+◌, ◌≤◌, ◌<◌, ◌≡◌, true,
 use Rattle.std.proofs.Common.{sym, ap, ◌∙◌, subst, append-nil, arith, length-append, eq-eqb, ne_eqb}
 use Rattle.text.specs.Text.{ascii}
 use Rattle.text.specs.Overlay.{overlay}
-use Rattle.text.specs.OverlayLaws.{overlay_length, overlay_both}
+use Rattle.text.proofs.OverlayLaws.{overlay_length, overlay_both}
 use Rattle.names.specs.declared.Found.TheVariants.{At, Nothing}
 use Rattle.names.specs.Listed.{listed, exceptions}
 use Rattle.names.specs.Lookup.{licence_name, exception_name, gnu_of, later_of, only_of}

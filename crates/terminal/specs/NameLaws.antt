@@ -8,7 +8,7 @@ use borrow.Author.Tests.{le-leb, lt-leb, eq-eqb, ne_eqb}
 use Rattle.text.specs.Text.{ascii}
 use Rattle.text.specs.Tests.{cond_true, cond_false}
 use Rattle.text.specs.Overlay.{overlay}
-use Rattle.text.specs.OverlayLaws.{overlay_none}
+use Rattle.text.proofs.OverlayLaws.{overlay_none}
 use Rattle.names.specs.Name.{Listed}
 use Rattle.names.specs.Listed.{listed, exceptions}
 use Rattle.names.specs.Lookup.{bytes_at, licence_texts, licence_name, exception_name}
