@@ -13,7 +13,7 @@ use Rattle.names.specs.Name.{Listed}
 use Rattle.names.specs.Listed.{listed, exceptions}
 use Rattle.names.specs.Lookup.{bytes_at, licence_texts, licence_name, exception_name}
 use Rattle.names.specs.Layout.{rows, name_at}
-use Rattle.names.specs.LayoutLaws.{counts, licence_row, exception_row}
+use Rattle.names.proofs.LayoutLaws.{counts, licence_row, exception_row}
 use Rattle.packed.specs.Packed.{answered_as, small_as}
 use Rattle.terminal.specs.Answers.{name_in, name_as, name_bytes}
 

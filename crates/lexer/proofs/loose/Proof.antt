@@ -4,7 +4,7 @@ use mathlib.Core.Logic.{⊎_elim}
 use native.Mathlib.Omega.{arith}
 use borrow.Author.Rules.{rules}
 use lib.ListN.{drop, length-drop}
-use Rattle.names.specs.Fits.{imprecise_fits}
+use Rattle.names.proofs.Fits.{imprecise_fits}
 use Rattle.lexer.specs.Lex.{imprecise_at}
 use Rattle.lexer.specs.Shape.{loose_of}
 use Rattle.lexer.proofs.loose.Statement.{statement}
