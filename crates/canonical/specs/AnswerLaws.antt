@@ -8,7 +8,7 @@ use borrow.Author.Tests.{lt-ltb, le-ltb}
 use Rattle.text.specs.Text.{same, part}
 use Rattle.text.specs.Tests.{cond_true, cond_false}
 use Rattle.text.specs.Overlay.{overlay}
-use Rattle.text.specs.OverlayLaws.{overlay_none}
+use Rattle.text.proofs.OverlayLaws.{overlay_none}
 use Rattle.refusal.specs.declared.Refusal.{Refusal}
 use Rattle.refusal.specs.declared.Refusal.TheVariants.{NoRoom}
 use Rattle.lexer.specs.declared.Checked.TheVariants.{Bad}

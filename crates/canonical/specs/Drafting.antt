@@ -2,7 +2,7 @@
 use Rattle.std.specs.Prelude.{ℕ, ◌+◌, ◌*◌, ◌<◌, ◌≤◌, ◌≡◌, refl, List, [], ◌++◌, length, take}
 use Rattle.std.proofs.Common.{sym, ◌∙◌, ap, subst, append_assoc, append-nil, arith, length-append}
 use Rattle.text.specs.Overlay.{overlay}
-use Rattle.text.specs.OverlayLaws.{overlay_none, overlay_length, overlay_both, overlay_read}
+use Rattle.text.proofs.OverlayLaws.{overlay_none, overlay_length, overlay_both, overlay_read}
 use Rattle.mode.specs.declared.Mode.{Mode}
 use Rattle.mode.specs.Modes.{lax}
 use Rattle.lexer.specs.declared.Checked.TheVariants.{Fine}

@@ -4,13 +4,13 @@ use Rattle.std.specs.Prelude.{ℕ, ◌+◌, ◌≤◌, ◌<◌, ◌≡◌, true,
 use Rattle.std.proofs.Common.{sym, ap, ◌∙◌, subst, append-nil, arith, length-append, eq-eqb, ne_eqb}
 use Rattle.text.specs.Text.{ascii}
 use Rattle.text.specs.Overlay.{overlay}
-use Rattle.text.specs.OverlayLaws.{overlay_length, overlay_both}
+use Rattle.text.proofs.OverlayLaws.{overlay_length, overlay_both}
 use Rattle.names.specs.declared.Found.TheVariants.{At, Nothing}
 use Rattle.names.specs.Listed.{listed, exceptions}
 use Rattle.names.specs.Lookup.{licence_name, exception_name, gnu_of, later_of, only_of}
 use Rattle.names.specs.Layout.{rows, name_at}
-use Rattle.names.specs.LayoutLaws.{counts, licence_row, exception_row}
-use Rattle.names.specs.Partners.{only_partner, only_name, only_bare, no_only_settled, later_partner, no_later_whole, gnu_listed}
+use Rattle.names.proofs.LayoutLaws.{counts, licence_row, exception_row}
+use Rattle.names.proofs.Partners.{only_partner, only_name, only_bare, no_only_settled, later_partner, no_later_whole, gnu_listed}
 use Rattle.canonical.specs.declared.Turn.{Turn}
 use Rattle.canonical.specs.declared.Turn.TheVariants.{Goes}
 use Rattle.canonical.specs.Canonical.{alone, plussed}

@@ -14,7 +14,7 @@ use Rattle.text.specs.WalkLaws.{reach_ge}
 use Rattle.utf8.specs.Utf8.{past_white, white_width, inside_of}
 use Rattle.names.specs.Lookup.{licence_of, exception_of, imprecise_of, bytes_at, imprecise_texts}
 use Rattle.names.specs.Shape.{imprecise_proper}
-use Rattle.names.specs.Fits.{LooseIs, imprecise_is}
+use Rattle.names.proofs.Fits.{LooseIs, imprecise_is}
 use Rattle.names.specs.declared.Found.{Found}
 use Rattle.names.specs.declared.Found.TheVariants.{At, Nothing}
 use Rattle.names.specs.declared.Loose.{Loose}

@@ -12,8 +12,8 @@ use Rattle.text.specs.RunLaws.{walk_word, ref_zero}
 use Rattle.utf8.specs.Utf8.{past_white}
 use Rattle.names.specs.Listed.{listed, exceptions}
 use Rattle.names.specs.Lookup.{licence_of, exception_of, imprecise_of}
-use Rattle.names.specs.Laws.{LicenceIs, ExceptionIs, licence_is, exception_is}
-use Rattle.names.specs.Fits.{LooseIs, imprecise_is}
+use Rattle.names.proofs.Laws.{LicenceIs, ExceptionIs, licence_is, exception_is}
+use Rattle.names.proofs.Fits.{LooseIs, imprecise_is}
 use Rattle.names.specs.declared.Found.{Found}
 use Rattle.names.specs.declared.Found.TheVariants.{At, Nothing}
 use Rattle.names.specs.declared.Loose.{Loose}

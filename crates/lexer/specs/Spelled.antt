@@ -21,7 +21,7 @@ use Rattle.utf8.specs.Laws.{Single, not_white, white_not, decoded_ascii}
 use Rattle.names.specs.Lookup.{licence_name, exception_name}
 use Rattle.names.specs.Listed.{listed, exceptions}
 use Rattle.names.specs.Shape.{Proper, licence_proper, exception_proper}
-use Rattle.names.specs.Laws.{
+use Rattle.names.proofs.Laws.{
   licence_found,
   exception_found,
   exception_not_licence,

@@ -18,8 +18,8 @@ use Rattle.text.specs.WalkLaws.{reach_stop}
 use Rattle.utf8.specs.Utf8.{decoded, front, white_of, white_width, past_white}
 use Rattle.names.specs.Lookup.{licence_of, exception_of, imprecise_of, licence_name}
 use Rattle.names.specs.Shape.{licence_proper}
-use Rattle.names.specs.Laws.{LicenceIs, ExceptionIs, licence_is, exception_is}
-use Rattle.names.specs.Fits.{LooseIs, imprecise_is}
+use Rattle.names.proofs.Laws.{LicenceIs, ExceptionIs, licence_is, exception_is}
+use Rattle.names.proofs.Fits.{LooseIs, imprecise_is}
 use Rattle.names.specs.declared.Found.{Found}
 use Rattle.names.specs.declared.Found.TheVariants.{At, Nothing}
 use Rattle.names.specs.declared.Loose.{Loose}

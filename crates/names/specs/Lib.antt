@@ -3,13 +3,8 @@ pub mod Listed
 pub mod Lookup
 pub mod Order
 pub mod Layout
-pub mod LayoutLaws
 pub mod OrderLaws
 pub mod Rules
 pub mod Shape
-pub mod Longest
-pub mod Laws
-pub mod Partners
-pub mod Fits
 pub mod Worked
 pub mod Unique

@@ -6,7 +6,7 @@ use Rattle.std.proofs.Math.Dec.{leb}
 use Rattle.std.proofs.Math.ListN.{length}
 use borrow.Author.Tests.{le-leb, lt-leb}
 use Rattle.text.specs.Overlay.{overlay}
-use Rattle.text.specs.OverlayLaws.{overlay_none, overlay_length, overlay_both}
+use Rattle.text.proofs.OverlayLaws.{overlay_none, overlay_length, overlay_both}
 use Rattle.refusal.specs.declared.Refusal.{Refusal}
 use Rattle.mode.specs.declared.Mode.{Mode}
 use Rattle.grammar.specs.declared.Part.TheVariants as P

@@ -5,7 +5,7 @@ use Rattle.names.specs.declared.Found.{Found}
 use Rattle.names.specs.declared.Found.TheVariants.{At, Nothing}
 use Rattle.names.specs.Listed.{listed}
 use Rattle.names.specs.Lookup.{later_of}
-use Rattle.names.specs.Partners.{later_partner}
+use Rattle.names.proofs.Partners.{later_partner}
 use Rattle.parser.specs.Turn.{SmallFound}
 
 -- the place of an "-or-later" name fits 16 bits

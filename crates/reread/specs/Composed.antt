@@ -10,8 +10,8 @@ use Rattle.text.specs.Tests.{cond_false}
 use Rattle.names.specs.declared.Found.{Found}
 use Rattle.names.specs.declared.Found.TheVariants.{At, Nothing}
 use Rattle.names.specs.Lookup.{licence_name, gnu_of, is_later, is_bare, stem, later_of, only_of}
-use Rattle.names.specs.Laws.{at_nothing}
-use Rattle.names.specs.Partners.{later_partner, only_partner, only_bare, bare_has_only, gnu_has_later}
+use Rattle.names.proofs.Laws.{at_nothing}
+use Rattle.names.proofs.Partners.{later_partner, only_partner, only_bare, bare_has_only, gnu_has_later}
 use Rattle.refusal.specs.declared.Expected.TheVariants as E
 use Rattle.refusal.specs.declared.Refusal.TheVariants.{Unexpected}
 use Rattle.mode.specs.declared.Mode.{Mode}

@@ -4,7 +4,7 @@ use Rattle.std.proofs.Common.{sym, ◌∙◌}
 use Rattle.std.proofs.Math.Bool.{and-true}
 use Rattle.std.proofs.lemmas.Bool.{false≢true}
 use Rattle.names.specs.Lookup.{deprecated_of}
-use Rattle.names.specs.Partners.{current_settled}
+use Rattle.names.proofs.Partners.{current_settled}
 use Rattle.mode.specs.Modes.{strict, lax}
 use Rattle.lexer.specs.Spelling.{Spoken}
 use Rattle.grammar.specs.Tree.{Tree}

@@ -4,7 +4,7 @@ use Rattle.std.proofs.Common.{append_assoc, append-nil}
 use Rattle.text.specs.Tests.{by_cond}
 use Rattle.names.specs.Lookup.{gnu_of, later_of, only_of}
 use Rattle.names.specs.Listed.{listed}
-use Rattle.names.specs.Partners.{later_partner, only_partner}
+use Rattle.names.proofs.Partners.{later_partner, only_partner}
 use Rattle.names.specs.declared.Found.{Found}
 use Rattle.names.specs.declared.Found.TheVariants.{At, Nothing}
 use Rattle.mode.specs.declared.Mode.{Mode}

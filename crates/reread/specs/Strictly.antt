@@ -2,7 +2,7 @@
 use Rattle.std.specs.Prelude.{ℕ, suc, ◌≡◌, refl, Bool, true, false, List, [], ◌∷◌, ◌++◌}
 use Rattle.std.proofs.Common.{ap, arith}
 use Rattle.names.specs.Lookup.{deprecated_of, is_bare, only_of}
-use Rattle.names.specs.Partners.{later_partner, only_partner, bare_has_only, settled_current, settled_no_only, other_settled}
+use Rattle.names.proofs.Partners.{later_partner, only_partner, bare_has_only, settled_current, settled_no_only, other_settled}
 use Rattle.names.specs.declared.Found.{Found}
 use Rattle.names.specs.declared.Found.TheVariants.{At, Nothing}
 use Rattle.mode.specs.Modes.{strict, lax}

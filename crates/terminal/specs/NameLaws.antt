@@ -8,12 +8,12 @@ use borrow.Author.Tests.{le-leb, lt-leb, eq-eqb, ne_eqb}
 use Rattle.text.specs.Text.{ascii}
 use Rattle.text.specs.Tests.{cond_true, cond_false}
 use Rattle.text.specs.Overlay.{overlay}
-use Rattle.text.specs.OverlayLaws.{overlay_none}
+use Rattle.text.proofs.OverlayLaws.{overlay_none}
 use Rattle.names.specs.Name.{Listed}
 use Rattle.names.specs.Listed.{listed, exceptions}
 use Rattle.names.specs.Lookup.{bytes_at, licence_texts, licence_name, exception_name}
 use Rattle.names.specs.Layout.{rows, name_at}
-use Rattle.names.specs.LayoutLaws.{counts, licence_row, exception_row}
+use Rattle.names.proofs.LayoutLaws.{counts, licence_row, exception_row}
 use Rattle.packed.specs.Packed.{answered_as, small_as}
 use Rattle.terminal.specs.Answers.{name_in, name_as, name_bytes}
 

@@ -2,7 +2,7 @@
 use mathlib.Core.Path.{sym, ◌∙◌}
 use lib.ListN.{length}
 use borrow.Author.Rules.{rules}
-use Rattle.names.specs.LayoutLaws.{counts}
+use Rattle.names.proofs.LayoutLaws.{counts}
 use Rattle.canonical.specs.Canonical.{alone}
 use Rattle.canonical.specs.PutLaws.{alone_only, alone_itself, room_as, put_as}
 use Rattle.canonical.proofs.put_alone.Statement.{statement}

@@ -4,7 +4,7 @@ use lib.ListN.{length}
 use borrow.Author.Rules.{rules}
 use Rattle.names.specs.Listed.{listed_count}
 use Rattle.names.specs.Lookup.{exception_name}
-use Rattle.names.specs.LayoutLaws.{counts}
+use Rattle.names.proofs.LayoutLaws.{counts}
 use Rattle.canonical.specs.declared.Turn.TheVariants.{Goes}
 use Rattle.canonical.specs.PutLaws.{exception_at, room_as, put_as}
 use Rattle.canonical.proofs.put_exception.Statement.{statement}

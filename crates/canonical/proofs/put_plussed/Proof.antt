@@ -5,7 +5,7 @@ use lib.ListN.{length}
 use borrow.Author.Rules.{rules}
 use Rattle.text.specs.Text.{ascii}
 use Rattle.names.specs.Layout.{name_at}
-use Rattle.names.specs.LayoutLaws.{counts}
+use Rattle.names.proofs.LayoutLaws.{counts}
 use Rattle.canonical.specs.Canonical.{plussed}
 use Rattle.canonical.specs.PutLaws.{plussed_plain, room_front, room_behind, put_both}
 use Rattle.canonical.proofs.put_plussed.Statement.{statement}

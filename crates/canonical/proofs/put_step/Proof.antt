@@ -1,7 +1,7 @@
 -- A step that has no token writes nothing.
 use mathlib.Core.Path.{refl, sym}
 use borrow.Author.Rules.{rules}
-use Rattle.text.specs.OverlayLaws.{overlay_none}
+use Rattle.text.proofs.OverlayLaws.{overlay_none}
 use Rattle.canonical.proofs.put_step.Statement.{statement}
 use Rattle.canonical.proofs.put_step.Tie as tie
 

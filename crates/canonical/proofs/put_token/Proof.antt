@@ -1,7 +1,7 @@
 -- Each kind of token is written as its case of `piece` says; a reference and an unknown licence as they stand.
 use mathlib.Core.Path.{refl, sym, ◌∙◌}
 use borrow.Author.Rules.{rules}
-use Rattle.text.specs.OverlayLaws.{overlay_none}
+use Rattle.text.proofs.OverlayLaws.{overlay_none}
 use Rattle.canonical.specs.PutLaws.{room_as, went_as}
 use Rattle.canonical.proofs.put_token.Statement.{statement}
 use Rattle.canonical.proofs.put_token.Tie as tie

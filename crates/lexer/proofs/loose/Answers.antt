@@ -1,6 +1,6 @@
 -- An imprecise name ends inside the text; none is found, or none is allowed, where the mode is asked for unknown terms.
 use Rattle.std.proofs.Common.{◌∙◌, sym, arith, drop, length-drop}
-use Rattle.names.specs.Fits.{imprecise_fits}
+use Rattle.names.proofs.Fits.{imprecise_fits}
 use Rattle.lexer.specs.Lex.{imprecise_at}
 use Rattle.lexer.specs.Shape.{loose_of}
 use Rattle.lexer.proofs.loose.Goals as goal

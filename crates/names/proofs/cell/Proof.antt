@@ -5,7 +5,7 @@ use Prim.Native.Nat.{ℕ, ◌*◌, ◌/◌, ◌%◌, ◌^◌}
 use native.Mathlib.Omega.{arith}
 use borrow.Author.Rules.{rules}
 use lib.ListN.{length, get_or}
-use Rattle.names.specs.LayoutLaws.{words_length, cell_at}
+use Rattle.names.proofs.LayoutLaws.{words_length, cell_at}
 use Rattle.names.proofs.cell.Statement.{statement}
 use Rattle.names.proofs.cell.Tie as tie
 

@@ -6,7 +6,7 @@ use borrow.Author.Rules.{rules}
 use lib.ListN.{length, get_or, drop}
 use Rattle.names.specs.Order.{order}
 use Rattle.names.specs.Layout.{name_at}
-use Rattle.names.specs.LayoutLaws.{body_fits, byte_at}
+use Rattle.names.proofs.LayoutLaws.{body_fits, byte_at}
 use Rattle.names.specs.OrderLaws.{run_ends, name_ends, both_end, less_here, greater_here, same_here}
 use Rattle.names.proofs.compare.Statement.{statement}
 use Rattle.names.proofs.compare.Tie as tie

@@ -5,7 +5,7 @@ use Prim.Native.String.{String}
 use Rattle.names.specs.Listed.{listed_count}
 use Rattle.names.specs.Lookup.{lookup, exception_of}
 use Rattle.names.specs.Order.{Ascending}
-use Rattle.names.specs.LayoutLaws.{counts, part_exceptions}
+use Rattle.names.proofs.LayoutLaws.{counts, part_exceptions}
 use Rattle.names.specs.Rules.{exceptions_ascend}
 use Rattle.names.proofs.exception.Statement.{statement}
 use Rattle.names.proofs.exception.Tie as tie

@@ -12,7 +12,7 @@ use Rattle.names.specs.declared.Order.TheVariants.{Less, Equal, Greater}
 use Rattle.names.specs.Lookup.{lookup, bytes_at}
 use Rattle.names.specs.Order.{order, Ascending}
 use Rattle.names.specs.Layout.{rows, texts, part, name_at}
-use Rattle.names.specs.LayoutLaws.{part_length, part_at}
+use Rattle.names.proofs.LayoutLaws.{part_length, part_at}
 use Rattle.names.specs.OrderLaws.{Below, less_below, equal_same, greater_below}
 use Rattle.names.specs.Rules.{found, absent, ahead, behind}
 use Rattle.names.proofs.find.Statement.{statement}

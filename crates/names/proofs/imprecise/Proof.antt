@@ -13,9 +13,9 @@ use Rattle.names.specs.declared.Loose.TheVariants.{Hit}
 use Rattle.names.specs.Listed.{listed, exceptions, imprecise}
 use Rattle.names.specs.Lookup.{bytes_at, imprecise_texts, imprecise_of, stood}
 use Rattle.names.specs.Layout.{rows, name_at, mark_at, placed}
-use Rattle.names.specs.LayoutLaws.{counts, rows_length, imprecise_row, imprecise_mark}
-use Rattle.names.specs.Longest.{longest_last, longest_none}
-use Rattle.names.specs.Fits.{stands_for_lem}
+use Rattle.names.proofs.LayoutLaws.{counts, rows_length, imprecise_row, imprecise_mark}
+use Rattle.names.proofs.Longest.{longest_last, longest_none}
+use Rattle.names.proofs.Fits.{stands_for_lem}
 use Rattle.names.proofs.imprecise.Statement.{statement}
 use Rattle.names.proofs.imprecise.Tie as tie
 

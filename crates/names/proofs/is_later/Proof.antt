@@ -1,8 +1,8 @@
 -- The mark of a licence says whether it is an "-or-later" name, and past the licences nothing is.
 use mathlib.Core.Path.{sym}
 use borrow.Author.Rules.{rules}
-use Rattle.names.specs.LayoutLaws.{counts, mark_says}
-use Rattle.names.specs.Partners.{past}
+use Rattle.names.proofs.LayoutLaws.{counts, mark_says}
+use Rattle.names.proofs.Partners.{past}
 use Rattle.names.proofs.is_later.Statement.{statement}
 use Rattle.names.proofs.is_later.Tie as tie
 

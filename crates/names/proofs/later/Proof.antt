@@ -3,8 +3,8 @@ use mathlib.Core.Path.{sym, ◌∙◌, ap}
 use Prim.Native.Nat.{ℕ, ◌/◌, ◌%◌}
 use borrow.Author.Rules.{rules}
 use Rattle.names.specs.Layout.{after_of}
-use Rattle.names.specs.LayoutLaws.{counts, mark_says}
-use Rattle.names.specs.Partners.{past}
+use Rattle.names.proofs.LayoutLaws.{counts, mark_says}
+use Rattle.names.proofs.Partners.{past}
 use Rattle.names.proofs.later.Statement.{statement}
 use Rattle.names.proofs.later.Tie as tie
 

@@ -1,7 +1,7 @@
 -- The entry's third byte is the length: `length_at`.
 use mathlib.Core.Path.{◌∙◌}
 use borrow.Author.Rules.{rules}
-use Rattle.names.specs.LayoutLaws.{directory_fits, length_at}
+use Rattle.names.proofs.LayoutLaws.{directory_fits, length_at}
 use Rattle.names.proofs.len.Statement.{statement}
 use Rattle.names.proofs.len.Tie as tie
 

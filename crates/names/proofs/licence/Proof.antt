@@ -5,7 +5,7 @@ use Prim.Native.String.{String}
 use Rattle.names.specs.Listed.{listed_count}
 use Rattle.names.specs.Lookup.{lookup, licence_of}
 use Rattle.names.specs.Order.{Ascending}
-use Rattle.names.specs.LayoutLaws.{counts, part_licences}
+use Rattle.names.proofs.LayoutLaws.{counts, part_licences}
 use Rattle.names.specs.Rules.{licences_ascend}
 use Rattle.names.proofs.licence.Statement.{statement}
 use Rattle.names.proofs.licence.Tie as tie

@@ -1,7 +1,7 @@
 -- The entry's last two bytes are the mark: `mark-at`.
 use native.Mathlib.Omega.{arith}
 use borrow.Author.Rules.{rules}
-use Rattle.names.specs.LayoutLaws.{directory_fits, mark_at_lem}
+use Rattle.names.proofs.LayoutLaws.{directory_fits, mark_at_lem}
 use Rattle.names.proofs.mark.Statement.{statement}
 use Rattle.names.proofs.mark.Tie as tie
 

@@ -4,7 +4,7 @@ use native.Mathlib.Omega.{arith}
 use borrow.Author.Rules.{rules}
 use lib.ListN.{get_or-eq_default}
 use Rattle.names.specs.Layout.{name_at}
-use Rattle.names.specs.LayoutLaws.{named, body_fits, byte_at}
+use Rattle.names.proofs.LayoutLaws.{named, body_fits, byte_at}
 use Rattle.names.proofs.name_byte.Statement.{statement}
 use Rattle.names.proofs.name_byte.Tie as tie
 

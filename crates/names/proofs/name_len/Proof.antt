@@ -2,7 +2,7 @@
 use mathlib.Core.Path.{sym, ap}
 use borrow.Author.Rules.{rules}
 use lib.ListN.{length}
-use Rattle.names.specs.LayoutLaws.{counts, unnamed}
+use Rattle.names.proofs.LayoutLaws.{counts, unnamed}
 use Rattle.names.proofs.name_len.Statement.{statement}
 use Rattle.names.proofs.name_len.Tie as tie
 

@@ -3,9 +3,9 @@ use mathlib.Core.Path.{ap, ◌∙◌}
 use Prim.Native.Nat.{ℕ, ◌-◌, ◌+◌}
 use native.Mathlib.Omega.{arith}
 use borrow.Author.Rules.{rules}
-use Rattle.text.specs.OverlayLaws.{Writing, writing_start, writing_on, writing_end}
+use Rattle.text.proofs.OverlayLaws.{Writing, writing_start, writing_on, writing_end}
 use Rattle.names.specs.Layout.{name_at}
-use Rattle.names.specs.LayoutLaws.{body_fits, byte_at}
+use Rattle.names.proofs.LayoutLaws.{body_fits, byte_at}
 use Rattle.names.proofs.put_name.Statement.{statement}
 use Rattle.names.proofs.put_name.Tie as tie
 

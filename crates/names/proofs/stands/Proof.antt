@@ -7,7 +7,7 @@ use lib.ListN.{length, get_or, drop}
 use Rattle.text.specs.Text.{begins}
 use Rattle.text.specs.TextLaws.{begins_done, begins_more, begins_not, begins_short}
 use Rattle.names.specs.Layout.{name_at}
-use Rattle.names.specs.LayoutLaws.{body_fits, byte_at}
+use Rattle.names.proofs.LayoutLaws.{body_fits, byte_at}
 use Rattle.names.proofs.stands.Statement.{statement}
 use Rattle.names.proofs.stands.Tie as tie
 

@@ -1,7 +1,7 @@
 -- The entry's first two bytes are the start: `start-at`.
 use native.Mathlib.Omega.{arith}
 use borrow.Author.Rules.{rules}
-use Rattle.names.specs.LayoutLaws.{directory_fits, start_at_lem}
+use Rattle.names.proofs.LayoutLaws.{directory_fits, start_at_lem}
 use Rattle.names.proofs.start.Statement.{statement}
 use Rattle.names.proofs.start.Tie as tie
 

@@ -4,7 +4,7 @@ use mathlib.Core.Path.{◌≡◌, sym, ap, ◌∙◌}
 use mathlib.Core.List.{List}
 use native.Mathlib.Omega.{arith}
 use Rattle.names.specs.Listed.{listed_count}
-use Rattle.names.specs.LayoutLaws.{counts}
+use Rattle.names.proofs.LayoutLaws.{counts}
 use Rattle.terminal.specs.Answers.{name_in, name_as, name_bytes}
 use Rattle.terminal.specs.NameLaws.{of_licences, of_exceptions, no_licence, no_exception, name_none}
 use borrow.Author.Rules.{rules}

@@ -4,7 +4,7 @@ use Prim.Native.Nat.{◌-◌}
 use native.Mathlib.Omega.{arith}
 use lib.ListN.{length}
 use borrow.Author.Rules.{rules}
-use Rattle.text.specs.OverlayLaws.{Writing, writing_start, writing_on, writing_end}
+use Rattle.text.proofs.OverlayLaws.{Writing, writing_start, writing_on, writing_end}
 use Rattle.packed.proofs.cells.put.Statement.{statement}
 use Rattle.packed.proofs.cells.put.Tie as tie
 

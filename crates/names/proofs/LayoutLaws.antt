@@ -18,7 +18,7 @@ use Rattle.names.specs.declared.Found.TheVariants.{At, Nothing}
 use Rattle.names.specs.Listed.{listed, exceptions, imprecise, listed_count, exceptions_count, imprecise_count, table_bytes, table_words}
 use Rattle.names.specs.Lookup.{seek, lookup, licence_texts, imprecise_texts, licence_of, bytes_at, licence_name, exception_name, deprecated_of, gnu_of, is_later, is_bare, stem, later_of, only_of, stands_for}
 use Rattle.names.specs.Shape.{licence_texts_lem, imprecise_texts_lem}
-use Rattle.names.specs.Partners.{later_partner, only_partner}
+use Rattle.names.proofs.Partners.{later_partner, only_partner}
 use Rattle.names.specs.Layout.{Row, row, bit, distance, after_of, mark_of, marked, placed, stood_for, rows, directory, bodies, table_of, value, pack, words, texts, name_at, start_at, mark_at, part}
 
 -- Bytes in words.

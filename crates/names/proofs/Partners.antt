@@ -27,7 +27,7 @@ use Rattle.names.specs.Lookup.{
   later_of,
   only_of,
 }
-use Rattle.names.specs.Laws.{at_nothing, licence_listed}
+use Rattle.names.proofs.Laws.{at_nothing, licence_listed}
 
 -- past the list there is nothing to tell
 pub record Past (k : ℕ) : Type 0 where

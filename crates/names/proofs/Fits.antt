@@ -27,7 +27,7 @@ use Rattle.names.specs.Lookup.{
 }
 use Rattle.names.specs.Rules.{Finds, finds}
 use Rattle.names.specs.Shape.{imprecise_texts_lem}
-use Rattle.names.specs.Laws.{licence_listed}
+use Rattle.names.proofs.Laws.{licence_listed}
 
 -- the test of the licence k that the imprecise name i stands for
 fitting : ℕ → Found → Bool

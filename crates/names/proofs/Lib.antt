@@ -1,0 +1,5 @@
+pub mod Laws
+pub mod Partners
+pub mod LayoutLaws
+pub mod Longest
+pub mod Fits
