@@ -1,5 +1,5 @@
 /*
- * tasgilfrem.h: SPDX licence expressions on the terminal. The C interface of libterminal.a, which `rt staticlib terminal` makes, for x86-64.
+ * tasgilfrem.h: SPDX licence expressions on the terminal. The C interface of libterminal.a, which `tools/library` makes, for x86-64.
  *
  * What holds of every function:
  *  - It takes any bytes, any lengths, any mode and any number. There is no call that it is not made for.

@@ -120,7 +120,7 @@ fn table_rt(names: &Names, rows: &[Row]) -> String {
     let mut out = format!("// {NOTE}\n");
     out += "// One constant table: a directory of offset (two bytes, low byte first), length and mark (two bytes) for each name,\n";
     out += "// then the bodies; eight bytes to a word, the first lowest.\n";
-    out += "ghost use mathlib.Core.Path.{_≡_};\nghost use Rattle·names·specs.specs.Layout.{words};\n\n";
+    out += "ghost use Rattle.std.specs.Prelude.{◌≡◌};\nghost use Rattle.names.specs.Layout.{words};\n\n";
     out += "// Where the licences end, where the exceptions end, and how many names there are.\n";
     out += &format!("pub const LICENCES: usize = {licences};\n\n");
     out += &format!("pub const EXCEPTIONS: usize = {};\n\n", licences + names.exceptions.len());
@@ -130,24 +130,22 @@ fn table_rt(names: &Names, rows: &[Row]) -> String {
         out += &format!("    0x{w:016X},\n");
     }
     out += "];\n\n// The table, made once for each public call and lent downwards.\n";
-    out +=
-        &format!("pub fn table() -> [u64; {}]\n    ensures {{ λ r. ⌜ r ≡ words ⌝ }}\n{{\n    TABLE\n}}\n", words.len());
+    out += &format!("pub fn table() -> [u64; {}]\n    ensures {{ result ≡ words }}\n{{\n    TABLE\n}}\n", words.len());
     out
 }
 
 fn listed_antt(names: &Names, rows: &[Row]) -> String {
     let mut out = format!("-- {NOTE}\n");
     out += "-- The names that the terminal knows. Document 01: \"Licences: ..\", \"Exceptions: ..\", \"Imprecise, exact case: ..\".\n";
-    out += "use Prim.Native.Nat.{ℕ}\nuse Prim.Native.String.{String}\nuse mathlib.Core.Path.{_≡_, refl}\n";
-    out += "use mathlib.Core.List.{List, [], _∷_}\nuse lib.ListN.{length}\n";
-    out += "use Rattle·names·specs.specs.Name.{Listed, Imprecise, plain, deprecated, gnu, deprecatedGnu, standing}\n\n";
+    out += "use Rattle.std.specs.Prelude.{ℕ, ◌≡◌, refl, List, [], ◌∷◌, length}\nuse Prim.Native.String.{String}\n";
+    out += "use Rattle.names.specs.Name.{Listed, Imprecise, plain, deprecated, gnu, deprecated_gnu, standing}\n\n";
     out += "unfoldable pub listed : List Listed\nlisted =\n";
     for l in &names.licences {
         let kind = match (l.deprecated, l.gnu) {
             (false, false) => "plain",
             (true, false) => "deprecated",
             (false, true) => "gnu",
-            (true, true) => "deprecatedGnu",
+            (true, true) => "deprecated_gnu",
         };
         out += &format!("    {kind} \"{}\" ∷\n", l.text);
     }
@@ -163,12 +161,12 @@ fn listed_antt(names: &Names, rows: &[Row]) -> String {
     for (list, count) in
         [("listed", names.licences.len()), ("exceptions", names.exceptions.len()), ("imprecise", names.imprecise.len())]
     {
-        out += &format!("pub {list}-count : length {list} ≡ {count}\nunfolding {list}\n{list}-count = refl\n\n");
+        out += &format!("pub {list}_count : length {list} ≡ {count}\nunfolding {list}\n{list}_count = refl\n\n");
     }
     let bytes = layout(rows).len();
     out += "-- how many bytes and how many words the table has\n";
     out += &format!(
-        "abbrev pub tableBytes : ℕ\ntableBytes = {bytes}\n\nabbrev pub tableWords : ℕ\ntableWords = {}\n",
+        "abbrev pub table_bytes : ℕ\ntable_bytes = {bytes}\n\nabbrev pub table_words : ℕ\ntable_words = {}\n",
         bytes.div_ceil(8)
     );
     out

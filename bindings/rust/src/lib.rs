@@ -25,7 +25,7 @@
 //!
 //! # Linking
 //!
-//! `rt staticlib terminal`, run in the project, proves the library and writes `target/staticlib/libterminal.a`, for
+//! `tools/library`, run in the project, proves the library and writes `target/staticlib/libterminal.a`, for
 //! x86-64. The crate says that it links it; the compiler is told where it is:
 //!
 //! ```text
