@@ -3,4 +3,4 @@ use Rattle.std.proofs.Common.{◌-◌, length}
 use Rattle.answers.proofs.lines.take_all.Given as goal
 
 abbrev pub decreases-loop-i : goal.decreases-loop-i
-decreases-loop-i l = length l.chunk - l.i
+decreases-loop-i g l = length l.chunk - l.i
