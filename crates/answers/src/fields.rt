@@ -7,7 +7,7 @@ pub(crate) const MOST: usize = 32768;
 pub(crate) type Decoded = [u8; MOST];
 
 // What a field stands for as a number.
-#[derive(Drop)]
+#[derive(Clone, Copy)]
 pub(crate) enum Decimal {
     Of(u64),
     Nothing,

@@ -13,7 +13,9 @@ mod rewrites;
 mod tokens;
 mod write;
 
-fn main() {
+use std::io;
+
+fn main(rt: HostRuntime) -> io::Result<()> {
     let t = names::table::table();
-    lines::serve(&t);
+    lines::serve(&rt, &t)
 }

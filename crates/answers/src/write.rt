@@ -2,6 +2,7 @@
 ghost use Rattle.std.specs.Prelude.{◌≡◌};
 ghost use Rattle.names.specs.Layout.{words};
 
+use itoa::Buffer;
 use names::table::{LICENCES, NAMES};
 use refusal::Span;
 
@@ -35,9 +36,8 @@ pub(crate) fn unknown(out: &mut Out, at: usize) -> usize {
 }
 
 fn decimal(out: &mut Out, at: usize, x: u64) -> usize {
-    let mut digits = [0u8; 20];
-    let k = io::decimal(x, &mut digits);
-    bytes(out, at, &digits[..k])
+    let mut digits = Buffer::new();
+    bytes(out, at, digits.format(x).as_bytes())
 }
 
 pub(crate) fn number(out: &mut Out, at: usize, x: u64) -> usize {

@@ -1,4 +1,6 @@
 // What the program is asked: five numbers of 20 digits, each with one byte behind it, then the text, then the list file.
+use std::io;
+use std::io::Read;
 
 // As much of a text and of a list file as is read: more than either may have.
 pub(crate) const MOST: usize = 65536;
@@ -7,6 +9,20 @@ pub(crate) const MOST: usize = 65536;
 pub(crate) const HEAD: usize = 105;
 
 pub(crate) const ROOM: usize = HEAD + 2 * MOST;
+
+// Reads what is asked, and says how many bytes it has: the input ends, or there is no more room. Each turn but the last takes a byte or more.
+pub(crate) fn read(rt: &HostRuntime, asked: &mut [u8; ROOM]) -> io::Result<usize> {
+    let mut input = rt.stdin();
+    let mut n = 0;
+    for _ in 0..ROOM {
+        let got = input.read(&mut asked[n..])?;
+        if got == 0 {
+            break;
+        }
+        n += got;
+    }
+    Ok(n)
+}
 
 // A number with one more digit, as long as it has one.
 fn longer(n: u64, b: u8) -> u64 {

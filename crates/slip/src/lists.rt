@@ -1,11 +1,11 @@
 // The list file: its entries, or what is wrong with it and where.
 use crate::write::Out;
 use crate::{phrases, refusals, show, write};
-use libc::STDOUT_FILENO;
 use licensee::Listed;
 use minimize::Choice;
 use mode::Mode;
 use refusal::Refusal;
+use std::io;
 
 // Two bytes of the contents of entry e, low byte first: at 0 its offset, at 2 its length.
 fn get16(file: &[u8], e: usize, at: usize) -> usize {
@@ -77,19 +77,19 @@ fn place(file: &[u8], e: usize, out: &mut Out, at: usize) -> usize {
 }
 
 // 17, with where and what is wrong.
-fn wrong(file: &[u8], r: Refusal, e: usize, out: &mut Out) -> u64 {
+fn wrong(rt: &HostRuntime, file: &[u8], r: Refusal, e: usize, out: &mut Out) -> io::Result<u64> {
     let n = refusals::told(r, out, 0);
     let m = place(file, e, out, n);
-    write::flush(STDOUT_FILENO, out, m);
-    17
+    write::flush(rt, out, m)?;
+    Ok(17)
 }
 
 // A refusal that the list file has a part in: answers its number.
-pub(crate) fn refused(file: &[u8], r: Refusal, out: &mut Out) -> u64 {
+pub(crate) fn refused(rt: &HostRuntime, file: &[u8], r: Refusal, out: &mut Out) -> io::Result<u64> {
     if let Refusal::BadList(e) = r {
-        return wrong(file, r, e, out);
+        return wrong(rt, file, r, e, out);
     }
-    refusals::told_all(file, r, out)
+    refusals::told_all(rt, file, r, out)
 }
 
 // The line of an entry.
@@ -110,19 +110,19 @@ fn entries(file: &[u8], count: usize, out: &mut Out, at: usize) -> usize {
 }
 
 // A valid list file: how many entries it has, and each of them.
-fn valid(file: &[u8], count: usize, out: &mut Out) -> u64 {
+fn valid(rt: &HostRuntime, file: &[u8], count: usize, out: &mut Out) -> io::Result<u64> {
     let n = phrases::put(out, 0, phrases::VALID);
     let m = write::plural(out, n, count as u64, phrases::ENTRY, phrases::ENTRIES);
     let k = write::line_end(out, m);
     let p = entries(file, count, out, k);
-    write::flush(STDOUT_FILENO, out, p);
-    0
+    write::flush(rt, out, p)?;
+    Ok(0)
 }
 
 // Checks a list file: answers the number of a refusal, 0 where there is none.
-pub(crate) fn check(file: &[u8], out: &mut Out) -> u64 {
+pub(crate) fn check(rt: &HostRuntime, file: &[u8], out: &mut Out) -> io::Result<u64> {
     match licensee::check(file) {
-        Listed::Refused(r) => refused(file, r, out),
-        Listed::Valid(count) => valid(file, count, out),
+        Listed::Refused(r) => refused(rt, file, r, out),
+        Listed::Valid(count) => valid(rt, file, count, out),
     }
 }

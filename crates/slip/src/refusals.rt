@@ -1,8 +1,8 @@
 // Refusals: the number, a sentence, the place, and what was expected there.
 use crate::write::Out;
 use crate::{phrases, show, write};
-use libc::STDOUT_FILENO;
 use refusal::{Column, Expected, Refusal, Span};
+use std::io;
 
 // What may stand where refusal 6 is given.
 fn set(e: Expected) -> usize {
@@ -78,8 +78,8 @@ pub(crate) fn refused(s: &[u8], r: Refusal, out: &mut Out, at: usize) -> usize {
 }
 
 // Writes a refusal and answers its number.
-pub(crate) fn told_all(s: &[u8], r: Refusal, out: &mut Out) -> u64 {
+pub(crate) fn told_all(rt: &HostRuntime, s: &[u8], r: Refusal, out: &mut Out) -> io::Result<u64> {
     let n = refused(s, r, out, 0);
-    write::flush(STDOUT_FILENO, out, n);
-    refusal::number(r) as u64
+    write::flush(rt, out, n)?;
+    Ok(refusal::number(r) as u64)
 }

@@ -1,10 +1,10 @@
 // The found licensees, the choice and the listing.
 use crate::write::Out;
 use crate::{lists, phrases, refusals, show, write};
-use libc::{STDERR_FILENO, STDOUT_FILENO};
 use minimize::{Choice, Finding, Listing};
 use mode::Mode;
 use refusal::Refusal;
+use std::io;
 
 // The list entry of each bit of a mask.
 type Entries = [u8; 30];
@@ -13,7 +13,7 @@ type Entries = [u8; 30];
 const SLICE: u64 = 1048576;
 
 // How far a listing is: the next cursor, how many masks may still be examined, how many sets were found, and the cursor that was told last.
-#[derive(Drop)]
+#[derive(Clone, Copy)]
 struct Run {
     cursor: u64,
     left: u64,
@@ -22,7 +22,7 @@ struct Run {
     state: State,
 }
 
-#[derive(Drop)]
+#[derive(Clone, Copy)]
 enum State {
     Goes,
     Paused,
@@ -116,13 +116,19 @@ fn found_lines(file: &[u8], entries: &Entries, count: usize, out: &mut Out) -> u
     n
 }
 
-fn found(file: &[u8], entries: &Entries, count: usize, out: &mut Out) {
+fn found(
+    rt: &HostRuntime,
+    file: &[u8],
+    entries: &Entries,
+    count: usize,
+    out: &mut Out,
+) -> io::Result<()> {
     let n = if count == 0 {
         write::line(out, 0, phrases::NOT_FOUND)
     } else {
         found_lines(file, entries, count, out)
     };
-    write::flush(STDOUT_FILENO, out, n);
+    write::flush(rt, out, n)
 }
 
 // What a found set is: the first one from the start is the choice.
@@ -137,49 +143,64 @@ fn set_label(from: u64, sets: u64) -> usize {
     }
 }
 
-fn tell_set(file: &[u8], entries: &Entries, mask: u64, from: u64, sets: u64, out: &mut Out) {
+fn tell_set(
+    rt: &HostRuntime,
+    file: &[u8],
+    entries: &Entries,
+    mask: u64,
+    from: u64,
+    sets: u64,
+    out: &mut Out,
+) -> io::Result<()> {
     let n = phrases::put(out, 0, set_label(from, sets));
     let m = set(file, entries, mask, out, n);
     let k = write::line_end(out, m);
-    write::flush(STDOUT_FILENO, out, k);
+    write::flush(rt, out, k)
 }
 
-fn tell_progress(next: u64, total: u64, out: &mut Out) {
+fn tell_progress(rt: &HostRuntime, next: u64, total: u64, out: &mut Out) -> io::Result<()> {
     let n = write::count(out, 0, phrases::EXAMINED, less(next, 1), phrases::OF);
     let m = write::count(out, n, phrases::NOTHING, total, phrases::RESUME);
     let k = write::decimal(out, m, next);
     let p = write::line_end(out, k);
-    write::flush(STDERR_FILENO, out, p);
+    write::flush(&rt.stderr(), out, p)
 }
 
 // Tells the progress of a listing that goes on, a slice after it was told last; answers the cursor that was told last.
-fn progress(told: u64, next: u64, total: u64, out: &mut Out) -> u64 {
+fn progress(rt: &HostRuntime, told: u64, next: u64, total: u64, out: &mut Out) -> io::Result<u64> {
     if less(next, told) < SLICE {
-        return told;
+        return Ok(told);
     }
-    tell_progress(next, total, out);
-    next
+    tell_progress(rt, next, total, out)?;
+    Ok(next)
 }
 
 // A listing that has come to its next cursor, with so many sets.
-fn came(r: Run, next: u64, sets: u64, total: u64, out: &mut Out) -> Run {
+fn came(
+    rt: &HostRuntime,
+    r: Run,
+    next: u64,
+    sets: u64,
+    total: u64,
+    out: &mut Out,
+) -> io::Result<Run> {
     let left = less(r.left, less(next, r.cursor));
     if left == 0 {
-        return Run {
+        return Ok(Run {
             cursor: next,
             left: 0,
             sets: sets,
             told: r.told,
             state: State::Paused,
-        };
+        });
     }
-    Run {
+    Ok(Run {
         cursor: next,
         left: left,
         sets: sets,
-        told: progress(r.told, next, total, out),
+        told: progress(rt, r.told, next, total, out)?,
         state: State::Goes,
-    }
+    })
 }
 
 fn ended(r: Run, next: u64, state: State) -> Run {
@@ -194,6 +215,7 @@ fn ended(r: Run, next: u64, state: State) -> Run {
 
 // One call of the listing.
 fn turn(
+    rt: &HostRuntime,
     s: &[u8],
     m: Mode,
     file: &[u8],
@@ -202,15 +224,15 @@ fn turn(
     total: u64,
     r: Run,
     out: &mut Out,
-) -> Run {
+) -> io::Result<Run> {
     match minimize::listing(s, m, file, r.cursor, least(r.left, SLICE)) {
         Listing::Found { mask, next } => {
-            tell_set(file, entries, mask, from, r.sets, out);
-            came(r, next, more(r.sets), total, out)
+            tell_set(rt, file, entries, mask, from, r.sets, out)?;
+            came(rt, r, next, more(r.sets), total, out)
         }
-        Listing::Paused(next) => came(r, next, r.sets, total, out),
-        Listing::Finished(next) => ended(r, next, State::Finished),
-        Listing::Refused(x) => ended(r, r.cursor, State::Refused(x)),
+        Listing::Paused(next) => came(rt, r, next, r.sets, total, out),
+        Listing::Finished(next) => Ok(ended(r, next, State::Finished)),
+        Listing::Refused(x) => Ok(ended(r, r.cursor, State::Refused(x))),
     }
 }
 
@@ -223,7 +245,7 @@ fn next_cursor(cursor: u64, end: usize, out: &mut Out, at: usize) -> usize {
 }
 
 // How many sets were found and how many masks examined, and how that ended.
-fn tell_end(r: Run, from: u64, end: usize, out: &mut Out) -> u64 {
+fn tell_end(rt: &HostRuntime, r: Run, from: u64, end: usize, out: &mut Out) -> io::Result<u64> {
     let n = phrases::put(out, 0, phrases::SETS);
     let m = write::plural(out, n, r.sets, phrases::MINIMAL_SET, phrases::MINIMAL_SETS);
     let k = write::count(
@@ -236,18 +258,18 @@ fn tell_end(r: Run, from: u64, end: usize, out: &mut Out) -> u64 {
     let p = phrases::put(out, k, end);
     let q = next_cursor(r.cursor, end, out, p);
     let z = write::line_end(out, q);
-    write::flush(STDOUT_FILENO, out, z);
-    0
+    write::flush(rt, out, z)?;
+    Ok(0)
 }
 
 // How a listing ended: answers the number of its refusal, 0 where there is none.
-fn summary(s: &[u8], r: Run, from: u64, out: &mut Out) -> u64 {
+fn summary(rt: &HostRuntime, s: &[u8], r: Run, from: u64, out: &mut Out) -> io::Result<u64> {
     let state = r.state;
     match state {
-        State::Goes => 0,
-        State::Paused => tell_end(r, from, phrases::GO_ON, out),
-        State::Finished => tell_end(r, from, phrases::FINISHED, out),
-        State::Refused(x) => refusals::told_all(s, x, out),
+        State::Goes => Ok(0),
+        State::Paused => tell_end(rt, r, from, phrases::GO_ON, out),
+        State::Finished => tell_end(rt, r, from, phrases::FINISHED, out),
+        State::Refused(x) => refusals::told_all(rt, s, x, out),
     }
 }
 
@@ -263,6 +285,7 @@ fn goes(r: Run) -> bool {
 
 // The listing from a cursor on, call by call. A proved loop has to end: no run uses up the turns.
 fn list(
+    rt: &HostRuntime,
     s: &[u8],
     m: Mode,
     file: &[u8],
@@ -271,7 +294,7 @@ fn list(
     from: u64,
     budget: u64,
     out: &mut Out,
-) -> u64 {
+) -> io::Result<u64> {
     let mut r = Run {
         cursor: from,
         left: budget,
@@ -279,19 +302,18 @@ fn list(
         told: from,
         state: State::Goes,
     };
-    let mut turns = u64::MAX;
-    while turns > 0 {
-        r = turn(s, m, file, entries, from, total, r, out);
+    for _ in 0..u64::MAX {
+        r = turn(rt, s, m, file, entries, from, total, r, out)?;
         if !goes(r) {
             break;
         }
-        turns -= 1;
     }
-    summary(s, r, from, out)
+    summary(rt, s, r, from, out)
 }
 
 // The list meets the expression, or it is refused. A budget of 1 is enough to know.
 fn met(
+    rt: &HostRuntime,
     s: &[u8],
     m: Mode,
     file: &[u8],
@@ -300,21 +322,29 @@ fn met(
     from: u64,
     budget: u64,
     out: &mut Out,
-) -> u64 {
+) -> io::Result<u64> {
     let Choice::Refused(x) = minimize::choice(s, m, file, 1) else {
-        return list(s, m, file, entries, masks(count), from, budget, out);
+        return list(rt, s, m, file, entries, masks(count), from, budget, out);
     };
-    refusals::told_all(s, x, out)
+    refusals::told_all(rt, s, x, out)
 }
 
 // The found licensees, then the sets: answers the number of a refusal, 0 where there is none.
-pub(crate) fn all(s: &[u8], m: Mode, file: &[u8], from: u64, budget: u64, out: &mut Out) -> u64 {
+pub(crate) fn all(
+    rt: &HostRuntime,
+    s: &[u8],
+    m: Mode,
+    file: &[u8],
+    from: u64,
+    budget: u64,
+    out: &mut Out,
+) -> io::Result<u64> {
     let mut entries = [0u8; 30];
     match minimize::found(s, m, file, &mut entries) {
-        Finding::Refused(x) => lists::refused(file, x, out),
+        Finding::Refused(x) => lists::refused(rt, file, x, out),
         Finding::Count(k) => {
-            found(file, &entries, k, out);
-            met(s, m, file, &entries, k, from, budget, out)
+            found(rt, file, &entries, k, out)?;
+            met(rt, s, m, file, &entries, k, from, budget, out)
         }
     }
 }

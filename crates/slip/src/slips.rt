@@ -2,10 +2,10 @@
 use crate::write::Out;
 use crate::{phrases, refusals, sets, show, tree, write};
 use canonical::Answer;
-use libc::STDOUT_FILENO;
 use mode::Mode;
 use parser::{Node, Outcome};
 use refusal::Refusal;
+use std::io;
 
 // A text has at most 1,024 bytes, and its canonical text at most four times as many.
 const LARGEST: usize = 4096;
@@ -31,27 +31,41 @@ fn canonical(s: &[u8], out: &mut Out, at: usize) -> usize {
 }
 
 // The expression, its canonical text and its tree.
-fn head(s: &[u8], nodes: [Node; 127], count: usize, out: &mut Out) {
+fn head(
+    rt: &HostRuntime,
+    s: &[u8],
+    nodes: [Node; 127],
+    count: usize,
+    out: &mut Out,
+) -> io::Result<()> {
     let t = names::table::table();
     let n = phrases::put(out, 0, phrases::EXPRESSION);
     let m = show::whole(s, out, n);
     let k = write::line_end(out, m);
     let p = canonical(s, out, k);
     let q = tree::tree(&t, s, nodes, count, out, p);
-    write::flush(STDOUT_FILENO, out, q);
+    write::flush(rt, out, q)
 }
 
 // Answers the number of a refusal, 0 where there is none.
-pub(crate) fn slip(s: &[u8], m: Mode, file: &[u8], from: u64, budget: u64, out: &mut Out) -> u64 {
+pub(crate) fn slip(
+    rt: &HostRuntime,
+    s: &[u8],
+    m: Mode,
+    file: &[u8],
+    from: u64,
+    budget: u64,
+    out: &mut Out,
+) -> io::Result<u64> {
     let p = parser::parse(s, m);
     let outcome = p.outcome;
     let nodes = p.nodes;
     let count = p.count;
     match outcome {
-        Outcome::Refused(r) => refusals::told_all(s, r, out),
+        Outcome::Refused(r) => refusals::told_all(rt, s, r, out),
         Outcome::Read => {
-            head(s, nodes, count, out);
-            sets::all(s, m, file, from, budget, out)
+            head(rt, s, nodes, count, out)?;
+            sets::all(rt, s, m, file, from, budget, out)
         }
     }
 }

@@ -14,7 +14,7 @@ type Cells = [u8; 128];
 type Stack = [u64; 128];
 
 // A node to draw: how deep, whether it is its operator's last operand, and that operator: 1 AND, 2 OR, 0 none.
-#[derive(Drop)]
+#[derive(Clone, Copy)]
 struct Item {
     node: usize,
     depth: usize,
@@ -23,7 +23,7 @@ struct Item {
 }
 
 // How many items are left to draw, and how much is written.
-#[derive(Drop)]
+#[derive(Clone, Copy)]
 struct Drawn {
     items: usize,
     at: usize,

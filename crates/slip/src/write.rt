@@ -3,7 +3,9 @@ ghost use Rattle.std.specs.Prelude.{◌≡◌};
 ghost use Rattle.names.specs.Layout.{words};
 
 use crate::phrases;
+use itoa::Buffer;
 use names::table::{LICENCES, NAMES};
+use std::io;
 
 // More than a text of the greatest length takes when each of its bytes is shown by three.
 pub(crate) const ROOM: usize = 262144;
@@ -41,9 +43,8 @@ pub(crate) fn repeat(out: &mut Out, at: usize, b: u8, times: usize) -> usize {
 }
 
 pub(crate) fn decimal(out: &mut Out, at: usize, x: u64) -> usize {
-    let mut digits = [0u8; 20];
-    let k = io::decimal(x, &mut digits);
-    bytes(out, at, &digits[..k])
+    let mut digits = Buffer::new();
+    bytes(out, at, digits.format(x).as_bytes())
 }
 
 // A number between two phrases.
@@ -94,7 +95,7 @@ pub(crate) fn exception(out: &mut Out, at: usize, t: &[u64], k: usize) -> usize
     }
 }
 
-// Writes what waits to a descriptor.
-pub(crate) fn flush(fd: i32, out: &Out, waits: usize) {
-    io::write_all(fd, text::cut(out, 0, waits));
+// Writes what waits to a stream.
+pub(crate) fn flush(to: &impl Print, out: &Out, waits: usize) -> io::Result<()> {
+    to.write_all(text::cut(out, 0, waits))
 }
