@@ -1,13 +1,3 @@
 pub mod Annex
 pub mod Signs
 pub mod Faults
-pub mod Unique
-pub mod Ambiguous
-pub mod Ahead
-pub mod LeafLaws
-pub mod Complete
-pub mod Held
-pub mod Scan
-pub mod Splits
-pub mod Judge
-pub mod FaultLaws

@@ -10,32 +10,32 @@ use Rattle.masks.specs.Masks.{has, spare, minimal, examined, stopped, searched, 
 use Rattle.masks.specs.Value.{shares, push, step, run, value}
 
 -- `(MIT AND ISC) OR 0BSD` with the list MIT, ISC, 0BSD; and an expression of which no licensee is found
-data Case : Type 0 where
+pub data Case : Type 0 where
   three : Case
   none : Case
 
-sat : Case → ℕ → Bool
+unfoldable pub sat : Case → ℕ → Bool
 sat three = value (1 ∷ 1 ∷ 16 ∷ 1 ∷ 17 ∷ []) (1 ∷ 2 ∷ 0 ∷ 4 ∷ 0 ∷ [])
 sat none = λ m. false
 
-found : Case → ℕ
+unfoldable pub found : Case → ℕ
 found three = 3
 found none = 0
 
 -- a call of the listing with its cursor and budget, or a choice with its budget
-data Question : Type 0 where
+pub data Question : Type 0 where
   list : ℕ → ℕ → Question
   choose : ℕ → Question
 
-data Answer : Type 0 where
+pub data Answer : Type 0 where
   listing : Listing → Answer
   choice : Choice → Answer
 
-answer : Case × Question → Answer
+unfoldable pub answer : Case × Question → Answer
 answer (w, list c b) = listing (listed (sat w) (found w) c b)
 answer (w, choose b) = choice (chosen (sat w) (found w) b)
 
-table : List ((Case × Question) × Answer)
+unfoldable pub table : List ((Case × Question) × Answer)
 table =
     -- document 01: the listing, resumed from its own cursor, and the choice
     ((three, list 1 8), listing (L.Found 3 4))
@@ -62,7 +62,3 @@ table =
     ∷ ((none, choose 1), choice (C.Refused RequirementsUnmet))
     ∷ ((none, choose 0), choice (C.Refused RequirementsUnmet))
     ∷ []
-
-worked : map (λ (w : (Case × Question) × Answer). answer w.0) table ≡ map (λ (w : (Case × Question) × Answer). w.1) table
-unfolding table answer sat found shares push step run value has spare minimal examined stopped searched settled listed chosen first
-worked = refl

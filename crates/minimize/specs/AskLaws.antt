@@ -7,7 +7,7 @@ use Rattle.grammar.specs.declared.Node.{Node}
 use Rattle.grammar.specs.declared.Parsed.{Parsed}
 use Rattle.grammar.specs.TreeLaws.{tree_length}
 use Rattle.grammar.specs.Grammar.{Result, got, refused, parse_of, blank, padded, answer_of}
-use Rattle.grammar.specs.Shape.{reads_tree}
+use Rattle.grammar.proofs.Shape.{reads_tree}
 use Rattle.minimize.specs.declared.Asked.{Asked}
 use Rattle.minimize.specs.Posed.{node_terms, SmallNodes, triples, asked_of, Roomy, Asks}
 

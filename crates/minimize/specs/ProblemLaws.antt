@@ -12,7 +12,7 @@ use Rattle.grammar.specs.declared.Outcome.TheVariants as O
 use Rattle.grammar.specs.Tree.{Tree, postfix}
 use Rattle.grammar.specs.Grammar.{Result, got, parse_of}
 use Rattle.grammar.specs.Grammar as Grammar
-use Rattle.grammar.specs.Shape.{reads_tree}
+use Rattle.grammar.proofs.Shape.{reads_tree}
 use Rattle.licensee.specs.declared.Accepted.{Accepted}
 use Rattle.licensee.specs.declared.Licensee.{Licensee}
 use Rattle.licensee.specs.Offers.{Accepts, good, wrong, list_of}

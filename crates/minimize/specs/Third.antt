@@ -11,7 +11,7 @@ use Rattle.grammar.specs.declared.Leaf.{Leaf}
 use Rattle.grammar.specs.declared.Node.{Node}
 use Rattle.grammar.specs.declared.Before.{Before}
 use Rattle.grammar.specs.Tree.{Tree, postfix}
-use Rattle.grammar.specs.Shape.{reads_tree}
+use Rattle.grammar.proofs.Shape.{reads_tree}
 use Rattle.grammar.specs.Grammar.{got, parse_of}
 use Rattle.licensee.specs.declared.Licensee.{Licensee}
 use Rattle.licensee.specs.Offers.{good, list_of}

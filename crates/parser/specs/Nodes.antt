@@ -4,7 +4,7 @@ use Rattle.std.specs.Prelude.{ℕ, ◌≡◌, List}
 use Rattle.mode.specs.declared.Mode.{Mode}
 use Rattle.grammar.specs.declared.Parsed.{Parsed}
 use Rattle.grammar.specs.Grammar.{parse_of, answer_of}
-use Rattle.grammar.specs.Shape.{Answered, answered}
+use Rattle.grammar.proofs.Shape.{Answered, answered}
 
 -- of whatever meets the contract of `parse`
 pub parsed_tree : (p : Parsed) (s : List ℕ) (m : Mode) → p ≡ answer_of (parse_of s m) → Answered p

@@ -50,7 +50,7 @@ use Rattle.grammar.specs.Grammar.{
   and_level,
   or_level,
 }
-use Rattle.grammar.specs.Levels.{and_eq, or_eq}
+use Rattle.grammar.proofs.Levels.{and_eq, or_eq}
 
 -- what stands on the stack: its bottom, an operator that waits for its right side, an open parenthesis
 pub data Frame : Type 0 where

@@ -1,10 +1,3 @@
 pub mod Reread
 pub mod Same
 pub mod Plain
-pub mod Settle
-pub mod Strictly
-pub mod Parted
-pub mod Fixed
-pub mod Plusses
-pub mod Composed
-pub mod Proved

@@ -76,20 +76,20 @@ use Rattle.minimize.specs.Minimize.{
 }
 
 -- a text in a mode; the size of a lent buffer and a text; mode, text, list file and budget, or cursor and budget
-data Question : Type 0 where
+pub data Question : Type 0 where
   parse : Mode → List ℕ → Question
   canonical : ℕ → List ℕ → Question
   choice : Mode → List ℕ → List ℕ → ℕ → Question
   listing : Mode → List ℕ → List ℕ → ℕ → ℕ → Question
 
 -- a name: listed, by its bytes, or a reference, by its ranges; or none
-data Name : Type 0 where
+pub data Name : Type 0 where
   none : Name
   listed_as : List ℕ → Name
   ref : Part → ℕ → ℕ → Name
 
 -- a node: a leaf by its licence, its plus flag, its addition and its span
-data Shown : Type 0 where
+pub data Shown : Type 0 where
   leaf : Name → Bool → Name → ℕ → ℕ → Shown
   and : Shown
   or : Shown
@@ -97,7 +97,7 @@ data Shown : Type 0 where
 
 -- nodes in postfix; of a canonical text what became of it, with the whole of the lent buffer; a mask, or found with mask and next cursor; paused, or
 -- finished, with the cursor; or a refusal
-data Reply : Type 0 where
+pub data Reply : Type 0 where
   read : List Shown → Reply
   unchanged : List ℕ → Reply
   written : ℕ → List ℕ → Reply
@@ -108,74 +108,74 @@ data Reply : Type 0 where
   finished : ℕ → Reply
   no : ℕ → Column → Reply
 
-name_of : Licence → Name
+unfoldable pub name_of : Licence → Name
 name_of (L.Listed k) = listed_as (licence_name k)
 name_of (L.Reference d n) = ref d n.start n.end
 
-added_of : Addition → Name
+unfoldable pub added_of : Addition → Name
 added_of A.Nothing = none
 added_of (A.Listed k) = listed_as (exception_name k)
 added_of (A.Reference d n) = ref d n.start n.end
 
-shown : Kind → Shown
+unfoldable pub shown : Kind → Shown
 shown K.Blank = blank
 shown (K.Leaf l) = leaf (name_of l.licence) l.plus (added_of l.addition) l.span.start l.span.end
 shown K.And = and
 shown K.Or = or
 
-of_result : Result → Reply
+unfoldable pub of_result : Result → Reply
 of_result (got q b ts) = read (map (λ (n : Node). shown n.kind) q)
 of_result (refused r) = no (number_of r) (column_of r)
 
-of_answer : Answer → List ℕ → Reply
+unfoldable pub of_answer : Answer → List ℕ → Reply
 of_answer W.Unchanged b = unchanged b
 of_answer (W.Written n) b = written n b
 of_answer (W.Refused r) b = kept (number_of r) (column_of r) b
 
-of_choice : Choice → Reply
+unfoldable pub of_choice : Choice → Reply
 of_choice (C.Mask m) = mask m
 of_choice (C.Paused n) = paused n
 of_choice (C.Refused r) = no (number_of r) (column_of r)
 
-of_listing : Listing → Reply
+unfoldable pub of_listing : Listing → Reply
 of_listing (M.Found m n) = found m n
 of_listing (M.Paused n) = paused n
 of_listing (M.Finished n) = finished n
 of_listing (M.Refused r) = no (number_of r) (column_of r)
 
 -- a lent buffer of n bytes, each 0xAA
-lent : ℕ → List ℕ
+unfoldable pub lent : ℕ → List ℕ
 lent n = replicate n 0xAA
 
 -- what the contracts of `parse`, `canonical`, `choice` and `listing` say
-answer : Question → Reply
+unfoldable pub answer : Question → Reply
 answer (parse m s) = of_result (parse_of s m)
 answer (canonical n s) = of_answer (answer_of s (lent n) (canonical_of s)) (buffer_of s (lent n) (canonical_of s))
 answer (choice m s f b) = of_choice (choice_of s m f b)
 answer (listing m s f c b) = of_listing (listing_of s m f c b)
 
 -- short forms for the table: a listed licence with nothing more, from a to b; refusals with a place, and 6 with its set
-lic : String → ℕ → ℕ → Shown
+unfoldable pub lic : String → ℕ → ℕ → Shown
 lic n a b = leaf (listed_as (ascii n)) false none a b
 
-at : ℕ → ℕ → ℕ → Reply
+unfoldable pub at : ℕ → ℕ → ℕ → Reply
 at n a b = no n (Place (span a b))
 
-six : ℕ → ℕ → Expected → Reply
+unfoldable pub six : ℕ → ℕ → Expected → Reply
 six a b e = no 6 (PlaceAndSet (span a b) e)
 
 -- the same answer in STRICT and in LAX, in front of the rest of the table
-either_way : List ℕ → Reply → List (Question × Reply) → List (Question × Reply)
+unfoldable pub either_way : List ℕ → Reply → List (Question × Reply) → List (Question × Reply)
 either_way s a rest = (parse strict s, a) ∷ (parse lax s, a) ∷ rest
 
 -- the text of the last row, and the list file of MIT, ISC and 0BSD
-doc : List ℕ
+unfoldable pub doc : List ℕ
 doc = ascii "(MIT AND ISC) OR 0BSD"
 
-bodies : List ℕ
+unfoldable pub bodies : List ℕ
 bodies = 3 ∷ 13 ∷ 0 ∷ 3 ∷ 0 ∷ 16 ∷ 0 ∷ 3 ∷ 0 ∷ 19 ∷ 0 ∷ 4 ∷ 0 ∷ ascii "MITISC0BSD"
 
-table : List (Question × Reply)
+unfoldable pub table : List (Question × Reply)
 table =
     -- P STRICT `MIT OR ISC OR 0BSD`: MIT ISC 0BSD OR OR
     (parse strict (ascii "MIT OR ISC OR 0BSD"), read (lic "MIT" 0 3 ∷ lic "ISC" 7 10 ∷ lic "0BSD" 14 18 ∷ or ∷ or ∷ []))
@@ -205,14 +205,3 @@ table =
     (either_way (ascii "MIT " ++ (0xC3 ∷ 0xA9 ∷ [])) (at 3 4 6)
     (either_way (ascii "MIT " ++ (0xE9 ∷ [])) (at 1 4 5)
     []))))))
-
-worked : map (λ (w : Question × Reply). answer w.0) table ≡ map (λ (w : Question × Reply). w.1) table
-unfolding
-    table answer of_result of_answer of_choice of_listing shown added_of name_of lent lic at six either_way doc bodies within lowest highest two three
-    four decoded front char_width first_ill white_of white_width past_white over reach one first begins same ends part overlay ref_byte run_byte seek
-    lookup licence_texts imprecise_texts licence_of exception_of bytes_at licence_name exception_name deprecated_of gnu_of is_later is_bare stem later_of
-    stands_for longest imprecise_of listed exceptions imprecise run_end ref_end operator_of ref_of documented imprecise_at unknown_of word_of run_of
-    mark_of scan_of check_of walked tokens_of name_start gnu_move plus_move move_of tail_of and_level parse_of alone plussed canon_from canonical_of answer_of
-    buffer_of name_in body_of at16 offset size placed offer_of entries_from contents list_of same_range satisfies equals has spare minimal examined
-    stopped searched settled chosen Masks.listed some_of found_after member tree_of wanted found_of satisfied limited problem_of choice_of listing_of
-worked = refl

@@ -29,8 +29,8 @@ use Rattle.annex.specs.Annex.{Item, Expression}
 use Rattle.canonical.specs.Canonical.{alone, plussed, written, is_listed, plus_next, text, refuse, behind, canon_from, canon_if, canonical_of}
 use Rattle.canonical.specs.Canonical as Canonical
 use Rattle.reread.specs.Reread.{or_self}
-use Rattle.reread.specs.Plusses.{PlusHere, Plusses, expression_plusses}
-use Rattle.reread.specs.Settle.{is_name, plus_first, single, doubled, settle, settled_from, settled}
+use Rattle.reread.proofs.Plusses.{PlusHere, Plusses, expression_plusses}
+use Rattle.reread.proofs.Settle.{is_name, plus_first, single, doubled, settle, settled_from, settled}
 
 -- a listed licence alone, and with its `+`, is spelled as the canonical text has it
 single_spelled : (k : ℕ) → spell_all (single k) ≡ alone k

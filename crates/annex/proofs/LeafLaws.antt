@@ -25,8 +25,8 @@ use Rattle.grammar.specs.Leaves.{listed_leaf, ref_leaf, plussed, renamed, later_
 use Rattle.grammar.specs.Grammar.{count}
 use Rattle.annex.specs.Annex.{Named, listed, referred, Item, item, adding, Allowed, Simple, id, id_later, ref, gnu_later, term, Additions, listed_one, ref_one, term_one, term_more, Operand, bare, with}
 use Rattle.annex.specs.Signs.{View, sign_of, signs_of, item_of}
-use Rattle.annex.specs.Unique.{NoTail, Head}
-use Rattle.annex.specs.Ahead.{ahead}
+use Rattle.annex.proofs.Unique.{NoTail, Head}
+use Rattle.annex.proofs.Ahead.{ahead}
 
 -- a tail that leaves at most n tokens
 abbrev Fewer : ℕ → Tail → Type 0

@@ -35,7 +35,7 @@ use Rattle.annex.specs.Annex.{
   choice,
   Expression,
 }
-use Rattle.reread.specs.Settle.{is_name, plus_first}
+use Rattle.reread.proofs.Settle.{is_name, plus_first}
 
 -- a token that the canonical text has, where b says if a listed licence stands just before it and c if a `+` stands just behind it: a `+` stands
 -- behind a listed licence, which is no "-or-later" name, and nothing is refused

@@ -10,8 +10,8 @@ use Rattle.lexer.specs.Spelling.{Spoken}
 use Rattle.grammar.specs.Tree.{Tree}
 use Rattle.annex.specs.Annex.{Simple, id, id_later, ref, gnu_later, term, bare, with, Level, Derives, leaf, group, alone, joined, one, choice}
 use Rattle.annex.specs.Signs.{Fits}
-use Rattle.reread.specs.Settle.{settled_from, settled, settled_append}
-use Rattle.reread.specs.Strictly.{Entry, only_self, additions_settled, additions_no_plus, group_settled, and_settled, or_settled, settle_fits}
+use Rattle.reread.proofs.Settle.{settled_from, settled, settled_append}
+use Rattle.reread.proofs.Strictly.{Entry, only_self, additions_settled, additions_no_plus, group_settled, and_settled, or_settled, settle_fits}
 
 simple_fixed : {s : List Spoken} {l : Entry} → Simple strict s l → settled s ≡ s
 unfolding settled settled_from

@@ -7,7 +7,7 @@ use Rattle.mode.specs.declared.Mode.{Mode}
 use Rattle.lexer.specs.Sign.{Sign, AND, OR}
 use Rattle.grammar.specs.Tree.{Tree, both, either, meaning}
 use Rattle.annex.specs.Annex.{Item, Level, Atom, AndLevel, OrLevel, Derives, leaf, group, alone, joined, one, choice, Expression, Compound, simple, conj, disj, paren, looseness, Precedence, Rightward}
-use Rattle.annex.specs.Unique.{one_tree}
+use Rattle.annex.proofs.Unique.{one_tree}
 
 -- how loose a level may be
 abbrev most : Level → ℕ

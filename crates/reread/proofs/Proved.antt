@@ -23,17 +23,17 @@ use Rattle.grammar.specs.Grammar as Grammar
 use Rattle.grammar.specs.TreeLaws.{postfix_one}
 use Rattle.annex.specs.Annex.{Expression}
 use Rattle.annex.specs.Signs.{spelled, signs_of, Fits}
-use Rattle.annex.specs.Held.{reads_fine, reads_derive, derives_reads}
+use Rattle.annex.proofs.Held.{reads_fine, reads_derive, derives_reads}
 use Rattle.canonical.specs.declared.Answer.TheVariants.{Unchanged}
 use Rattle.canonical.specs.Canonical.{text, canonical_of, answer_of, buffer_of}
 use Rattle.reread.specs.Reread.{Reads, by_bytes, as_only, Reread}
 use Rattle.reread.specs.Same.{signs_heard}
 use Rattle.reread.specs.Plain.{spelled_fine}
-use Rattle.reread.specs.Settle.{settled}
-use Rattle.reread.specs.Strictly.{Entry, settle_fits}
-use Rattle.reread.specs.Parted.{derives_apart, derives_known, settled_known}
-use Rattle.reread.specs.Fixed.{strict_settled}
-use Rattle.reread.specs.Composed.{composed}
+use Rattle.reread.proofs.Settle.{settled}
+use Rattle.reread.proofs.Strictly.{Entry, settle_fits}
+use Rattle.reread.proofs.Parted.{derives_apart, derives_known, settled_known}
+use Rattle.reread.proofs.Fixed.{strict_settled}
+use Rattle.reread.proofs.Composed.{composed}
 
 -- known tokens that are an expression of STRICT, spelled
 module _ (w : List Spoken) (known : AllKnown w) (t : Tree Entry) (fits : Fits strict w t) (short : length (spell_all w) ≤ 1024) where

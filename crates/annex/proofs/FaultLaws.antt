@@ -20,7 +20,7 @@ use Rattle.lexer.specs.Sign.{Sign}
 use Rattle.grammar.specs.Grammar.{refused, read_if, parse_of}
 use Rattle.annex.specs.Signs.{View, sign_of}
 use Rattle.annex.specs.Faults.{Begins, Dead, Not, set_after, Split, here, next, Reason, lexical, unexpected, unended, Fault}
-use Rattle.annex.specs.Judge.{Blamed, blamed}
+use Rattle.annex.proofs.Judge.{Blamed, blamed}
 
 -- the reason of a refusal; 9 is that there is no token
 pub faults : {R S : Type 0} (v : View R S) (s : List ℕ) (m : Mode) (r : Refusal) → check_of s ≡ Fine → parse_of s m ≡ refused r

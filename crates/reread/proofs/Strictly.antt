@@ -13,7 +13,7 @@ use Rattle.grammar.specs.TreeLaws.{size_seen}
 use Rattle.annex.specs.Annex.{Named, Item, Allowed, Simple, id, id_later, ref, gnu_later, term, Additions, listed_one, ref_one, term_one, term_more, Operand, bare, with, Level, Derives, leaf, group, alone, joined, one, choice, depth}
 use Rattle.annex.specs.Signs.{Fits}
 use Rattle.reread.specs.Reread.{or_self, as_only}
-use Rattle.reread.specs.Settle.{NoPlus, settled_from, settled, settled_append}
+use Rattle.reread.proofs.Settle.{NoPlus, settled_from, settled, settled_append}
 
 -- a leaf by its bytes
 abbrev pub Entry : Type 0

@@ -88,8 +88,8 @@ use Rattle.grammar.specs.Grammar.{
 }
 use Rattle.annex.specs.Annex.{Named, listed, referred, Item, item, adding, Allowed, id, id_later, ref, gnu_later, term, Additions, listed_one, ref_one, term_one, term_more, Operand, bare, with, Level, Atom, AndLevel, OrLevel, Derives, leaf, group, alone, joined, one, choice, depth, Expression}
 use Rattle.annex.specs.Signs.{View, sign_of, item_of}
-use Rattle.annex.specs.Unique.{clash}
-use Rattle.annex.specs.Ahead.{Linked, an_and, an_or, a_close, other, linked, Op, by_and, by_or, of, node, tail_refused, tail_met, tail_unmet, Meets, met, unmet, meets, leaves_behind}
+use Rattle.annex.proofs.Unique.{clash}
+use Rattle.annex.proofs.Ahead.{Linked, an_and, an_or, a_close, other, linked, Op, by_and, by_or, of, node, tail_refused, tail_met, tail_unmet, Meets, met, unmet, meets, leaves_behind}
 use Rattle.annex.specs.Faults.{
   Begins,
   Waits,
@@ -105,8 +105,8 @@ use Rattle.annex.specs.Faults.{
   Fault,
 }
 use Rattle.annex.specs.Faults as Faults
-use Rattle.annex.specs.Splits.{split_append, split_signs, split_count}
-use Rattle.annex.specs.Scan.{
+use Rattle.annex.proofs.Splits.{split_append, split_signs, split_count}
+use Rattle.annex.proofs.Scan.{
   mid,
   stuck,
   down,

@@ -26,10 +26,10 @@ use Rattle.grammar.specs.Grammar.{Result, got, refused, unexpected, link_of, end
 use Rattle.grammar.specs.TreeLaws.{leaves_postfix, postfix_one, size_seen}
 use Rattle.annex.specs.Annex.{Item, OrLevel, Expression, depth}
 use Rattle.annex.specs.Signs.{View, signs_of, item_of, Fits, Over, Says}
-use Rattle.annex.specs.Unique.{clash, one_tree}
-use Rattle.annex.specs.Complete.{Answers, answers}
-use Rattle.annex.specs.Splits.{split_signs}
-use Rattle.annex.specs.Judge.{Read, Judged, all_judged}
+use Rattle.annex.proofs.Unique.{clash, one_tree}
+use Rattle.annex.proofs.Complete.{Answers, answers}
+use Rattle.annex.proofs.Splits.{split_signs}
+use Rattle.annex.proofs.Judge.{Read, Judged, all_judged}
 
 weaken : (r n k : ℕ) → Over r (0 + n) (0 + k) → Over r n k
 weaken r n k (inl h) = inl (h.0, omega arith)

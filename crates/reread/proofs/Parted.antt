@@ -14,8 +14,8 @@ use Rattle.lexer.specs.Apart.{Known, AllKnown, KnownOrBad, is_run, is_operator, 
 use Rattle.grammar.specs.Tree.{Tree}
 use Rattle.annex.specs.Annex.{Named, Simple, id, id_later, ref, gnu_later, term, Additions, listed_one, ref_one, term_one, term_more, bare, with, Level, Derives, leaf, group, alone, joined, one, choice}
 use Rattle.reread.specs.Reread.{or_self}
-use Rattle.reread.specs.Settle.{is_name, plus_first, single, doubled, settle, settled_from, settled}
-use Rattle.reread.specs.Strictly.{Entry}
+use Rattle.reread.proofs.Settle.{is_name, plus_first, single, doubled, settle, settled_from, settled}
+use Rattle.reread.proofs.Strictly.{Entry}
 
 -- what is neither a run nor a `+` may stand behind anything
 clear_after : (x y : Spoken) → is_run y ≡ false → is_plus y ≡ false → clear x y ≡ true

@@ -14,12 +14,12 @@ use Rattle.grammar.specs.declared.Kind.TheVariants as K
 use Rattle.grammar.specs.declared.Node.{Node}
 use Rattle.grammar.specs.Tree.{Tree, just, both, either, node_of, postfix, size, seen, leaves}
 use Rattle.grammar.specs.Grammar.{Result, got, refused, Reader, pick, emit, close, count, atom_at, and_level, or_level}
-use Rattle.grammar.specs.Levels.{and_eq, or_eq}
+use Rattle.grammar.proofs.Levels.{and_eq, or_eq}
 use Rattle.annex.specs.Annex.{Item, Level, Atom, AndLevel, OrLevel, Derives, leaf, group, alone, joined, one, choice, depth}
 use Rattle.annex.specs.Signs.{View, signs_of, item_of, Over}
-use Rattle.annex.specs.Unique.{Head, NoAnd, NoOr, Stops}
-use Rattle.annex.specs.Ahead.{Then, ahead, Op, by_and, by_or, of, node, tail_refused, tail_met, tail_unmet, Meets, met, unmet, meets, leaves_behind}
-use Rattle.annex.specs.LeafLaws.{Leafed, leafed}
+use Rattle.annex.proofs.Unique.{Head, NoAnd, NoOr, Stops}
+use Rattle.annex.proofs.Ahead.{Then, ahead, Op, by_and, by_or, of, node, tail_refused, tail_met, tail_unmet, Meets, met, unmet, meets, leaves_behind}
+use Rattle.annex.proofs.LeafLaws.{Leafed, leafed}
 
 over_more : (r m k n l : ℕ) → m ≤ n → k ≤ l → Over r m k → Over r n l
 over_more r m k n l a b (inl h) = inl (h.0, omega arith)

@@ -1,0 +1,10 @@
+pub mod Ahead
+pub mod Ambiguous
+pub mod Complete
+pub mod FaultLaws
+pub mod Held
+pub mod Judge
+pub mod LeafLaws
+pub mod Scan
+pub mod Splits
+pub mod Unique
