@@ -13,7 +13,7 @@ use Rattle.lexer.specs.declared.Checked.TheVariants.{Fine}
 use Rattle.lexer.specs.declared.Step.{Step}
 use Rattle.lexer.specs.declared.Token.{Token}
 use Rattle.lexer.specs.Lex.{scan_of, check_of}
-use Rattle.lexer.specs.Ahead.{Answer, ended, mark, word, invalid, unknown, apart, scan_answer}
+use Rattle.lexer.proofs.Ahead.{Answer, ended, mark, word, invalid, unknown, apart, scan_answer}
 use Rattle.lexer.specs.Tokens.{Tokens, done, token, and_then, walked, tokens_of}
 use Rattle.lexer.specs.Tokens as Lexed
 use Rattle.lexer.specs.Sign.{Sign}

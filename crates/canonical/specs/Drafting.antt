@@ -9,7 +9,7 @@ use Rattle.lexer.specs.declared.Checked.TheVariants.{Fine}
 use Rattle.lexer.specs.declared.Step.{Step}
 use Rattle.lexer.specs.Lex.{scan_of, check_of}
 use Rattle.lexer.specs.Standing.{StandingStep}
-use Rattle.lexer.specs.StandingLaws.{scan_standing}
+use Rattle.lexer.proofs.StandingLaws.{scan_standing}
 use Rattle.canonical.specs.declared.Turn.{Turn}
 use Rattle.canonical.specs.declared.Turn.TheVariants.{Goes, Ends, Fails}
 use Rattle.canonical.specs.declared.Draft.TheVariants as D

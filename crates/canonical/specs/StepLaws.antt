@@ -18,11 +18,11 @@ use Rattle.lexer.specs.declared.Step.{Step}
 use Rattle.lexer.specs.declared.Step.TheVariants.{Got, Done, Refused}
 use Rattle.lexer.specs.Lex.{got, scan_of}
 use Rattle.lexer.specs.Tokens.{Tokens, done, refused, token, and_then, tokens_of}
-use Rattle.lexer.specs.TokensLaws.{tokens_step}
-use Rattle.lexer.specs.Ahead.{Ahead, TokenAt, scan_ahead}
+use Rattle.lexer.proofs.TokensLaws.{tokens_step}
+use Rattle.lexer.proofs.Ahead.{Ahead, TokenAt, scan_ahead}
 use Rattle.lexer.specs.Spelling.{said, spell, bytes_of}
 use Rattle.lexer.specs.Standing.{NameStands, Standing, StandingStep}
-use Rattle.lexer.specs.StandingLaws.{scan_standing, plus_here, plus_there}
+use Rattle.lexer.proofs.StandingLaws.{scan_standing, plus_here, plus_there}
 use Rattle.canonical.specs.declared.Turn.{Turn}
 use Rattle.canonical.specs.declared.Turn.TheVariants.{Goes, Ends, Fails}
 use Rattle.canonical.specs.Canonical.{alone, plussed, plus_next, Text, text, refuse, behind, canon_from}

@@ -5,17 +5,3 @@ pub mod Spelling
 pub mod Standing
 pub mod Apart
 pub mod Shape
-pub mod LexLaws
-pub mod RunLaws
-pub mod Ahead
-pub mod Inner
-pub mod Agree
-pub mod Between
-pub mod TokensLaws
-pub mod Flags
-pub mod Moved
-pub mod Spelled
-pub mod Back
-pub mod StandingLaws
-pub mod Worked
-pub mod Unique

@@ -1,10 +1,4 @@
-pub mod BodyLaws
-pub mod Faults
-pub mod FileLaws
 pub mod Offers
 pub mod Packed
 pub mod Satisfies
 pub mod Terms
-pub mod TermsLaws
-pub mod Unique
-pub mod Worked

@@ -1,11 +1,6 @@
 pub mod Bits
-pub mod Kept
-pub mod Least
 pub mod Masks
-pub mod MasksLaws
 pub mod Promise
-pub mod Resume
-pub mod Unique
 pub mod Value
 pub mod ValueLaws
 pub mod Worked

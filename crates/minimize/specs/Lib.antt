@@ -1,13 +1,3 @@
-pub mod ArrayLaws
-pub mod AskLaws
-pub mod ListLaws
 pub mod Minimize
-pub mod PlacesLaws
 pub mod Posed
-pub mod PosedLaws
-pub mod ProblemLaws
 pub mod Rises
-pub mod Satisfaction
-pub mod Third
-pub mod TripleLaws
-pub mod Unique

@@ -7,10 +7,10 @@ use Rattle.mode.specs.declared.Mode.{Mode}
 use Rattle.lexer.specs.declared.Step.{Step}
 use Rattle.lexer.specs.declared.Checked.TheVariants.{Fine}
 use Rattle.lexer.specs.Lex.{scan_of, check_of}
-use Rattle.lexer.specs.Agree.{fine_short}
+use Rattle.lexer.proofs.Agree.{fine_short}
 use Rattle.lexer.specs.Tokens.{Tokens, done, token, and_then, tokens_of}
 use Rattle.lexer.specs.Tokens as Lexed
-use Rattle.lexer.specs.TokensLaws.{tokens_step}
+use Rattle.lexer.proofs.TokensLaws.{tokens_step}
 use Rattle.grammar.specs.declared.Kind.{Kind}
 use Rattle.grammar.specs.declared.Kind.TheVariants as K
 use Rattle.grammar.specs.declared.Node.{Node}

@@ -12,8 +12,8 @@ use Rattle.lexer.specs.declared.Token.TheVariants as T
 use Rattle.lexer.specs.declared.Step.{Step}
 use Rattle.lexer.specs.declared.Step.TheVariants as S
 use Rattle.lexer.specs.Lex.{scan_of}
-use Rattle.lexer.specs.Ahead.{Ahead, scan_ahead}
-use Rattle.lexer.specs.Inner.{DocInside, RefInside, Inside, InsideStep, scan_inside}
+use Rattle.lexer.proofs.Ahead.{Ahead, scan_ahead}
+use Rattle.lexer.proofs.Inner.{DocInside, RefInside, Inside, InsideStep, scan_inside}
 use Rattle.parser.specs.Turn.{Small, SmallPart, SmallToken, SmallStep}
 use Rattle.parser.specs.Meaning.{Wide}
 use Rattle.parser.specs.Machine.{Onward}

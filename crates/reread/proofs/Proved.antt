@@ -12,8 +12,8 @@ use Rattle.lexer.specs.Lex.{check_of}
 use Rattle.lexer.specs.Tokens.{tokens_of}
 use Rattle.lexer.specs.Spelling.{Spoken, heard, spell_all}
 use Rattle.lexer.specs.Apart.{AllKnown}
-use Rattle.lexer.specs.StandingLaws.{heard_known}
-use Rattle.lexer.specs.Back.{heard_back}
+use Rattle.lexer.proofs.StandingLaws.{heard_known}
+use Rattle.lexer.proofs.Back.{heard_back}
 use Rattle.grammar.specs.declared.Leaf.{Leaf}
 use Rattle.grammar.specs.declared.Node.{Node}
 use Rattle.grammar.specs.declared.Outcome.TheVariants as O

@@ -12,7 +12,7 @@ use Rattle.names.specs.Lookup.{licence_name, exception_name}
 use Rattle.names.specs.Shape.{licence_proper, exception_proper}
 use Rattle.lexer.specs.declared.Checked.TheVariants.{Fine}
 use Rattle.lexer.specs.Lex.{check_of}
-use Rattle.lexer.specs.Agree.{check_fine}
+use Rattle.lexer.proofs.Agree.{check_fine}
 use Rattle.lexer.specs.Sign.{name, reference, unknown, exception, addition, plus, WITH, AND, OR, LP, RP, bad}
 use Rattle.lexer.specs.Spelling.{Naming, Spoken, behind_doc, spell, spell_all}
 use Rattle.lexer.specs.Apart.{KnownDoc, KnownRef, Known, AllKnown}

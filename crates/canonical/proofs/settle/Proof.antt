@@ -2,7 +2,7 @@
 use mathlib.Core.Path.{◌≡◌, subst}
 use native.Mathlib.Omega.{arith}
 use borrow.Author.Rules.{rules}
-use Rattle.lexer.specs.Agree.{fine_short}
+use Rattle.lexer.proofs.Agree.{fine_short}
 use Rattle.canonical.specs.declared.Draft.{Draft}
 use Rattle.canonical.specs.declared.Draft.TheVariants as D
 use Rattle.canonical.specs.Canonical.{canonical_of}

@@ -3,7 +3,7 @@ use mathlib.Core.Path.{sym}
 use native.Mathlib.Omega.{arith}
 use borrow.Author.Rules.{rules}
 use Rattle.utf8.specs.BoundaryLaws.{boundary_le, ill_boundary}
-use Rattle.lexer.specs.Agree.{check_long, check_ill, check_fine}
+use Rattle.lexer.proofs.Agree.{check_long, check_ill, check_fine}
 use Rattle.lexer.proofs.check.Statement.{statement}
 use Rattle.lexer.proofs.check.Tie as tie
 

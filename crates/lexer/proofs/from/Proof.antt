@@ -1,6 +1,6 @@
 use mathlib.Core.Path.{◌∙◌}
 use borrow.Author.Rules.{rules}
-use Rattle.lexer.specs.LexLaws.{from_out, from_in}
+use Rattle.lexer.proofs.LexLaws.{from_out, from_in}
 use Rattle.lexer.proofs.from.Statement.{statement}
 use Rattle.lexer.proofs.from.Tie as tie
 

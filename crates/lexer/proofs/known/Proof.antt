@@ -2,7 +2,7 @@
 use borrow.Author.Rules.{rules}
 use Rattle.text.specs.Text.{part}
 use Rattle.lexer.specs.Shape.{other_of, grouped}
-use Rattle.lexer.specs.LexLaws.{or_is, or_not}
+use Rattle.lexer.proofs.LexLaws.{or_is, or_not}
 use Rattle.lexer.proofs.known.Statement.{statement}
 use Rattle.lexer.proofs.known.Tie as tie
 

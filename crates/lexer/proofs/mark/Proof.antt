@@ -1,7 +1,7 @@
 use mathlib.Core.Path.{◌∙◌}
 use native.Mathlib.Omega.{arith}
 use borrow.Author.Rules.{rules}
-use Rattle.lexer.specs.LexLaws.{mark_done, mark_plus, mark_apart, mark_open, mark_close, mark_slash, mark_run}
+use Rattle.lexer.proofs.LexLaws.{mark_done, mark_plus, mark_apart, mark_open, mark_close, mark_slash, mark_run}
 use Rattle.lexer.proofs.mark.Statement.{statement}
 use Rattle.lexer.proofs.mark.Tie as tie
 

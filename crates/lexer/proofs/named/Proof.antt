@@ -1,6 +1,6 @@
 use borrow.Author.Rules.{rules}
 use Rattle.lexer.specs.Shape.{named_of}
-use Rattle.lexer.specs.LexLaws.{or_is, or_not}
+use Rattle.lexer.proofs.LexLaws.{or_is, or_not}
 use Rattle.lexer.proofs.named.Statement.{statement}
 use Rattle.lexer.proofs.named.Tie as tie
 

@@ -1,6 +1,6 @@
 use borrow.Author.Rules.{rules}
 use Rattle.text.specs.Tests.{called}
-use Rattle.lexer.specs.LexLaws.{operator_and, operator_or, operator_with, operator_not}
+use Rattle.lexer.proofs.LexLaws.{operator_and, operator_or, operator_with, operator_not}
 use Rattle.lexer.proofs.operator.Statement.{statement}
 use Rattle.lexer.proofs.operator.Tie as tie
 

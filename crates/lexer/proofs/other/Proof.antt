@@ -1,6 +1,6 @@
 use borrow.Author.Rules.{rules}
 use Rattle.lexer.specs.Shape.{other_of}
-use Rattle.lexer.specs.LexLaws.{or_is, or_not}
+use Rattle.lexer.proofs.LexLaws.{or_is, or_not}
 use Rattle.lexer.proofs.other.Statement.{statement}
 use Rattle.lexer.proofs.other.Tie as tie
 

@@ -2,7 +2,7 @@ use mathlib.Core.Path.{sym, ◌∙◌}
 use native.Mathlib.Omega.{arith}
 use borrow.Author.Rules.{rules}
 use Rattle.lexer.specs.Shape.{referred_of}
-use Rattle.lexer.specs.LexLaws.{document_in}
+use Rattle.lexer.proofs.LexLaws.{document_in}
 use Rattle.lexer.proofs.reference.Statement.{statement}
 use Rattle.lexer.proofs.reference.Tie as tie
 

@@ -3,7 +3,7 @@ use native.Mathlib.Omega.{arith}
 use borrow.Author.Rules.{rules}
 use borrow.Author.Tests.{eq-eqb, ne_eqb}
 use Rattle.lexer.specs.Lex.{run_of}
-use Rattle.lexer.specs.RunLaws.{run_ge, run_le}
+use Rattle.lexer.proofs.RunLaws.{run_ge, run_le}
 use Rattle.lexer.proofs.run.Statement.{statement}
 use Rattle.lexer.proofs.run.Tie as tie
 

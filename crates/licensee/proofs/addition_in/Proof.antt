@@ -2,7 +2,7 @@
 use Prim.Native.Nat.{◌<◌}
 use mathlib.Core.Path.{sym}
 use borrow.Author.Rules.{rules}
-use Rattle.licensee.specs.BodyLaws.{no_addition_lem}
+use Rattle.licensee.proofs.BodyLaws.{no_addition_lem}
 use Rattle.licensee.proofs.addition_in.Statement.{statement}
 use Rattle.licensee.proofs.addition_in.Tie as tie
 

@@ -2,7 +2,7 @@
 use mathlib.Core.Path.{refl}
 use native.Mathlib.Omega.{arith}
 use borrow.Author.Rules.{rules}
-use Rattle.licensee.specs.TermsLaws.{reference_kind}
+use Rattle.licensee.proofs.TermsLaws.{reference_kind}
 use Rattle.licensee.proofs.addition_term.Statement.{statement}
 use Rattle.licensee.proofs.addition_term.Tie as tie
 

@@ -1,7 +1,7 @@
 -- Behind the licence, by the step there.
 use mathlib.Core.Path.{sym, ◌∙◌}
 use borrow.Author.Rules.{rules}
-use Rattle.licensee.specs.BodyLaws.{no_token, licence_none, licence_with, licence_other}
+use Rattle.licensee.proofs.BodyLaws.{no_token, licence_none, licence_with, licence_other}
 use Rattle.licensee.proofs.behind_licence.Statement.{statement}
 use Rattle.licensee.proofs.behind_licence.Tie as tie
 

@@ -1,7 +1,7 @@
 -- Behind WITH, by the step there and the next.
 use mathlib.Core.Path.{sym, ◌∙◌}
 use borrow.Author.Rules.{rules}
-use Rattle.licensee.specs.BodyLaws.{no_token, not_done, step_fits, with_none, with_got, alone_more, alone_done}
+use Rattle.licensee.proofs.BodyLaws.{no_token, not_done, step_fits, with_none, with_got, alone_more, alone_done}
 use Rattle.licensee.proofs.behind_with.Statement.{statement}
 use Rattle.licensee.proofs.behind_with.Tie as tie
 

@@ -1,7 +1,7 @@
 -- The count or the refusal of what was read.
 use borrow.Author.Rules.{rules}
 use Rattle.licensee.specs.Offers.{list_of}
-use Rattle.licensee.specs.FileLaws.{checked_read, checked_refused}
+use Rattle.licensee.proofs.FileLaws.{checked_read, checked_refused}
 use Rattle.licensee.proofs.check.Statement.{statement}
 use Rattle.licensee.proofs.check.Tie as tie
 

@@ -1,7 +1,7 @@
 -- A step that is not done is no end.
 use mathlib.Core.Path.{sym}
 use borrow.Author.Rules.{rules}
-use Rattle.licensee.specs.BodyLaws.{not_done, end_not}
+use Rattle.licensee.proofs.BodyLaws.{not_done, end_not}
 use Rattle.licensee.proofs.ended.Statement.{statement}
 use Rattle.licensee.proofs.ended.Tie as tie
 

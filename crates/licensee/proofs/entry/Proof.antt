@@ -3,7 +3,7 @@ use mathlib.Core.Path.{refl, sym, subst}
 use native.Mathlib.Omega.{arith}
 use borrow.Author.Rules.{rules}
 use Rattle.text.specs.Text.{part}
-use Rattle.licensee.specs.FileLaws.{Lies, place_part}
+use Rattle.licensee.proofs.FileLaws.{Lies, place_part}
 use Rattle.licensee.proofs.entry.Statement.{statement}
 use Rattle.licensee.proofs.entry.Tie as tie
 use Rattle.licensee.proofs.entry.Reads as reads

@@ -1,7 +1,7 @@
 -- A token that is a licence, by its tag; each other is none.
 use mathlib.Core.Path.{sym}
 use borrow.Author.Rules.{rules}
-use Rattle.licensee.specs.BodyLaws.{no_licence}
+use Rattle.licensee.proofs.BodyLaws.{no_licence}
 use Rattle.licensee.proofs.licence_in.Statement.{statement}
 use Rattle.licensee.proofs.licence_in.Tie as tie
 

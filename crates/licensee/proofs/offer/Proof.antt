@@ -5,7 +5,7 @@ use native.Mathlib.Omega.{arith}
 use borrow.Author.Rules.{rules}
 use Rattle.text.specs.Text.{part}
 use Rattle.text.specs.TextLaws.{part_length}
-use Rattle.licensee.specs.FileLaws.{offer_unfit, offer_past, offer_most, offer_in}
+use Rattle.licensee.proofs.FileLaws.{offer_unfit, offer_past, offer_most, offer_in}
 use Rattle.licensee.proofs.offer.Statement.{statement}
 use Rattle.licensee.proofs.offer.Tie as tie
 

@@ -6,7 +6,7 @@ use native.Mathlib.Omega.{arith}
 use lib.ListN.{length}
 use borrow.Author.Rules.{rules}
 use Rattle.licensee.specs.Offers.{list_of, offset, size}
-use Rattle.licensee.specs.FileLaws.{place_none, place_some, entry_room, has_wrong, has_past, has_in}
+use Rattle.licensee.proofs.FileLaws.{place_none, place_some, entry_room, has_wrong, has_past, has_in}
 use Rattle.licensee.proofs.place.Statement.{statement}
 use Rattle.licensee.proofs.place.Tie as tie
 use Rattle.licensee.proofs.place.Reads as reads

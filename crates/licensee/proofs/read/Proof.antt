@@ -3,7 +3,7 @@ use mathlib.Core.Path.{sym, ap, ◌∙◌}
 use native.Mathlib.Omega.{arith}
 use borrow.Author.Rules.{rules}
 use Rattle.licensee.specs.Terms.{accepted_of}
-use Rattle.licensee.specs.FileLaws.{contents_are, list_entries, list_cut}
+use Rattle.licensee.proofs.FileLaws.{contents_are, list_entries, list_cut}
 use Rattle.licensee.proofs.read.Statement.{statement}
 use Rattle.licensee.proofs.read.Tie as tie
 

@@ -1,7 +1,7 @@
 -- A body, by its check, its first step, the licence and what follows.
 use mathlib.Core.Path.{sym, ◌∙◌}
 use borrow.Author.Rules.{rules}
-use Rattle.licensee.specs.BodyLaws.{no_token, step_fits, body_bad, body_none, body_got}
+use Rattle.licensee.proofs.BodyLaws.{no_token, step_fits, body_bad, body_none, body_got}
 use Rattle.licensee.proofs.read_body.Statement.{statement}
 use Rattle.licensee.proofs.read_body.Tie as tie
 

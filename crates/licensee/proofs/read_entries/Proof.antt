@@ -4,7 +4,7 @@ use mathlib.Core.Path.{sym, ap, ◌∙◌}
 use native.Mathlib.Omega.{arith}
 use borrow.Author.Rules.{rules}
 use Rattle.licensee.specs.Terms.{accepted_of}
-use Rattle.licensee.specs.FileLaws.{Walk, walk_start, walk_on, walk_wrong, walk_after, walk_read, walk_small}
+use Rattle.licensee.proofs.FileLaws.{Walk, walk_start, walk_on, walk_wrong, walk_after, walk_read, walk_small}
 use Rattle.licensee.proofs.read_entries.Statement.{statement}
 use Rattle.licensee.proofs.read_entries.Tie as tie
 

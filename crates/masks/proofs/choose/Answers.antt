@@ -2,7 +2,7 @@
 use Rattle.std.proofs.Common.{sym, ◌∙◌, arith}
 use lib.Pow.{pow_pos, pow_mono}
 use Rattle.masks.specs.Bits.{shl_one}
-use Rattle.masks.specs.MasksLaws.{chosen_unmet, chosen_none, chosen_some, chosen_all}
+use Rattle.masks.proofs.MasksLaws.{chosen_unmet, chosen_none, chosen_some, chosen_all}
 use Rattle.masks.proofs.choose.Goals as goal
 use Rattle.masks.proofs.choose.Goals.{then-budget-all, else-budget-all}
 

@@ -5,7 +5,7 @@ use mathlib.Core.Bool.{◌||◌}
 use lib.Dec.{ltb}
 use Rattle.text.specs.Tests.{neither}
 use Rattle.masks.specs.Bits.{shl_one}
-use Rattle.masks.specs.MasksLaws.{listed_bad, listed_none, listed_some}
+use Rattle.masks.proofs.MasksLaws.{listed_bad, listed_none, listed_some}
 use Rattle.masks.proofs.list.Goals as goal
 use Rattle.masks.proofs.list.Goals.{then-budget-left, else-budget-left}
 

@@ -1,7 +1,7 @@
 -- What the search has found, or where it has come to, is where the count of the examined masks comes to.
 use borrow.Author.Rules.{rules}
 use mathlib.Core.Path.{sym}
-use Rattle.masks.specs.MasksLaws.{searched_found, searched_paused, searched_finished}
+use Rattle.masks.proofs.MasksLaws.{searched_found, searched_paused, searched_finished}
 use Rattle.masks.proofs.search.Statement.{statement}
 use Rattle.masks.proofs.search.Tie as tie
 

@@ -1,6 +1,6 @@
 use borrow.Author.Rules.{rules}
 use mathlib.Core.Path.{sym}
-use Rattle.masks.specs.MasksLaws.{settled_mask, settled_paused}
+use Rattle.masks.proofs.MasksLaws.{settled_mask, settled_paused}
 use Rattle.masks.proofs.settle.Statement.{statement}
 use Rattle.masks.proofs.settle.Tie as tie
 

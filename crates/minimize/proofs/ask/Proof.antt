@@ -6,9 +6,9 @@ use native.Mathlib.Omega.{arith}
 use lib.ListN.{length, take, length-set}
 use borrow.Author.Rules.{rules}
 use Rattle.minimize.specs.Posed.{node_terms, SmallNodes, triples}
-use Rattle.minimize.specs.TripleLaws.{triples_push}
-use Rattle.minimize.specs.ArrayLaws.{asked_next, small_next}
-use Rattle.minimize.specs.AskLaws.{ask_fits, ask_asks}
+use Rattle.minimize.proofs.TripleLaws.{triples_push}
+use Rattle.minimize.proofs.ArrayLaws.{asked_next, small_next}
+use Rattle.minimize.proofs.AskLaws.{ask_fits, ask_asks}
 use Rattle.minimize.proofs.ask.Statement.{statement}
 use Rattle.minimize.proofs.ask.Tie as tie
 

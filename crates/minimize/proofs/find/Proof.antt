@@ -7,8 +7,8 @@ use borrow.Author.Rules.{rules}
 use borrow.Author.Tests.{not-true, not-false}
 use Rattle.minimize.specs.Minimize.{found_after, found_at}
 use Rattle.minimize.specs.Posed.{triples, found_terms, found_places}
-use Rattle.minimize.specs.TripleLaws.{triples_push}
-use Rattle.minimize.specs.ArrayLaws.{found_new, found_known, found_unwanted}
+use Rattle.minimize.proofs.TripleLaws.{triples_push}
+use Rattle.minimize.proofs.ArrayLaws.{found_new, found_known, found_unwanted}
 use Rattle.minimize.proofs.find.Statement.{statement}
 use Rattle.minimize.proofs.find.Tie as tie
 

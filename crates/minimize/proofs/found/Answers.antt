@@ -2,7 +2,7 @@
 use Rattle.std.proofs.Common.{refl, sym, ap, arith}
 use Rattle.minimize.specs.Minimize.{problem_of, places_of, found_answer, found_buffer}
 use Rattle.minimize.specs.declared.Finding.TheVariants as F
-use Rattle.minimize.specs.ProblemLaws.{posed_refused, posed_read}
+use Rattle.minimize.proofs.ProblemLaws.{posed_refused, posed_read}
 use Rattle.minimize.proofs.found.Goals as goal
 
 pub slice_bounds-places-end : goal.slice_bounds-places-end

@@ -7,7 +7,7 @@ use borrow.Author.Rules.{rules}
 use Rattle.licensee.specs.Terms.{same_terms}
 use Rattle.minimize.specs.Minimize.{some_of}
 use Rattle.minimize.specs.Posed.{triples}
-use Rattle.minimize.specs.TripleLaws.{some_at, some_none_step}
+use Rattle.minimize.proofs.TripleLaws.{some_at, some_none_step}
 use Rattle.minimize.proofs.is_known.Statement.{statement}
 use Rattle.minimize.proofs.is_known.Tie as tie
 

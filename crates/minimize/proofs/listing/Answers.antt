@@ -2,7 +2,7 @@
 use Rattle.std.proofs.Common.{sym, ap, arith}
 use lib.Seq.{length-take-le}
 use Rattle.minimize.specs.Minimize.{Problem, problem_of, places_of, listed_in, listing_of}
-use Rattle.minimize.specs.ProblemLaws.{posed_refused, posed_read}
+use Rattle.minimize.proofs.ProblemLaws.{posed_refused, posed_read}
 use Rattle.minimize.proofs.listing.Goals as goal
 
 pub slice_bounds-codes-end : goal.slice_bounds-codes-end

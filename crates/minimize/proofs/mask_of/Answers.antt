@@ -3,7 +3,7 @@ use Rattle.std.proofs.Common.{◌≡◌, refl, sym, ◌∙◌, arith}
 use lib.Pow.{pow_mono}
 use Rattle.masks.specs.Bits.{shl_one}
 use Rattle.minimize.specs.Posed.{triples, bits, mask_of}
-use Rattle.minimize.specs.ArrayLaws.{mask_below, mask_on, mask_off}
+use Rattle.minimize.proofs.ArrayLaws.{mask_below, mask_on, mask_off}
 use Rattle.minimize.proofs.mask_of.Goals as goal
 use Rattle.minimize.proofs.mask_of.Goals.{then-satisfies, else-satisfies}
 

@@ -1,6 +1,6 @@
 -- A text that is refused is the problem's refusal; one that reads is a tree's nodes.
 use Rattle.std.proofs.Common.{refl, sym}
-use Rattle.minimize.specs.ProblemLaws.{problem_unread, problem_read}
+use Rattle.minimize.proofs.ProblemLaws.{problem_unread, problem_read}
 use Rattle.minimize.proofs.pose.Goals as goal
 
 pub slice_bounds-pose_read-end-in-Nodes : goal.slice_bounds-pose_read-end-in-Nodes

@@ -2,7 +2,7 @@
 use mathlib.Core.Path.{refl}
 use native.Mathlib.Omega.{arith}
 use borrow.Author.Rules.{rules}
-use Rattle.minimize.specs.PosedLaws.{accepted_room, pose_many, pose_some}
+use Rattle.minimize.proofs.PosedLaws.{accepted_room, pose_many, pose_some}
 use Rattle.minimize.proofs.pose_found.Statement.{statement}
 use Rattle.minimize.proofs.pose_found.Tie as tie
 

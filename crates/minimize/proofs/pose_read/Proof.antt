@@ -1,6 +1,6 @@
 -- A list that is refused is the problem's refusal; one that is valid is posed.
 use borrow.Author.Rules.{rules}
-use Rattle.minimize.specs.ProblemLaws.{poses_unlisted}
+use Rattle.minimize.proofs.ProblemLaws.{poses_unlisted}
 use Rattle.minimize.proofs.pose_read.Statement.{statement}
 use Rattle.minimize.proofs.pose_read.Tie as tie
 

@@ -6,7 +6,7 @@ use native.Mathlib.Omega.{arith}
 use lib.ListN.{length, take, length-set}
 use borrow.Author.Rules.{rules}
 use Rattle.minimize.specs.Posed.{triples, mask_of}
-use Rattle.minimize.specs.ArrayLaws.{met_next}
+use Rattle.minimize.proofs.ArrayLaws.{met_next}
 use Rattle.minimize.proofs.put_masks.Statement.{statement}
 use Rattle.minimize.proofs.put_masks.Tie as tie
 

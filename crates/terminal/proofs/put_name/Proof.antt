@@ -4,7 +4,7 @@ use mathlib.Core.Path.{◌≡◌, sym, ap, ◌∙◌}
 use native.Mathlib.Omega.{arith}
 use Rattle.names.specs.Layout.{name_at}
 use Rattle.packed.specs.Packed.{answered_as, small_as}
-use Rattle.terminal.specs.NameLaws.{name_fits, name_small}
+use Rattle.terminal.proofs.NameLaws.{name_fits, name_small}
 use borrow.Author.Rules.{rules}
 use Rattle.terminal.proofs.put_name.Statement.{statement}
 use Rattle.terminal.proofs.put_name.Tie as tie

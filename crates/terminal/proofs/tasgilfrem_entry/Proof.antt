@@ -5,7 +5,7 @@ use lib.Dec.{eqb}
 use borrow.Author.Tests.{eq-eqb, ne_eqb}
 use Rattle.text.specs.Tests.{cond_true, cond_false}
 use Rattle.refusal.specs.declared.Span.{Span}
-use Rattle.licensee.specs.FileLaws.{place_part}
+use Rattle.licensee.proofs.FileLaws.{place_part}
 use Rattle.terminal.specs.Answers.{entry_as}
 use borrow.Author.Rules.{rules}
 use Rattle.terminal.proofs.tasgilfrem_entry.Statement.{statement}

@@ -6,7 +6,7 @@ use native.Mathlib.Omega.{arith}
 use Rattle.names.specs.Listed.{listed_count}
 use Rattle.names.proofs.LayoutLaws.{counts}
 use Rattle.terminal.specs.Answers.{name_in, name_as, name_bytes}
-use Rattle.terminal.specs.NameLaws.{of_licences, of_exceptions, no_licence, no_exception, name_none}
+use Rattle.terminal.proofs.NameLaws.{of_licences, of_exceptions, no_licence, no_exception, name_none}
 use borrow.Author.Rules.{rules}
 use Rattle.terminal.proofs.tasgilfrem_name.Statement.{statement}
 use Rattle.terminal.proofs.tasgilfrem_name.Tie as tie

@@ -4,7 +4,7 @@ use mathlib.Core.Path.{◌≡◌}
 use native.Mathlib.Omega.{arith}
 use lib.ListN.{length}
 use borrow.Author.Rules.{rules}
-use Rattle.minimize.specs.AskLaws.{ask_fits}
+use Rattle.minimize.proofs.AskLaws.{ask_fits}
 use Rattle.packed.specs.RecordLaws.{record_length, Recorded, recorded_start, recorded_on, answers_of, parsed_refused, parsed_small, parsed_whole}
 use Rattle.terminal.proofs.tasgilfrem_parse.Statement.{statement}
 use Rattle.terminal.proofs.tasgilfrem_parse.Tie as tie

@@ -13,10 +13,10 @@ use Rattle.masks.specs.declared.Choice.TheVariants as C
 use Rattle.masks.specs.declared.Listing.{Listing}
 use Rattle.masks.specs.declared.Listing.TheVariants.{Found, Paused, Finished, Refused}
 use Rattle.masks.specs.Masks.{minimal, settled, listed, chosen}
-use Rattle.masks.specs.MasksLaws.{settled_mask, settled_paused, chosen_unmet, chosen_some}
+use Rattle.masks.proofs.MasksLaws.{settled_mask, settled_paused, chosen_unmet, chosen_some}
 use Rattle.masks.specs.Promise.{Ascending, Minimal, Moves, Promise, Kept}
-use Rattle.masks.specs.Least.{minimal_is, minimal_when, minimal_below}
-use Rattle.masks.specs.Resume.{Says, Part, runs, listed_says}
+use Rattle.masks.proofs.Least.{minimal_is, minimal_when, minimal_below}
+use Rattle.masks.proofs.Resume.{Says, Part, runs, listed_says}
 
 not_so : (b : Bool) → (b ≡ true → ⊥) → b ≡ false
 not_so true f = absurd (f refl)

@@ -12,9 +12,9 @@ use Rattle.lexer.specs.declared.Step.{Step}
 use Rattle.lexer.specs.declared.Step.TheVariants.{Got, Done, Refused}
 use Rattle.lexer.specs.Lex.{scan_of, check_of, step_of}
 use Rattle.lexer.specs.Tokens.{Tokens, refused, token, and_then, walked, tokens_of, steps_of}
-use Rattle.lexer.specs.Ahead.{Ahead, scan_ahead, step_ahead}
-use Rattle.lexer.specs.Agree.{fine_well, step_bad, step_scan}
-use Rattle.lexer.specs.Between.{Between, scan_between}
+use Rattle.lexer.proofs.Ahead.{Ahead, scan_ahead, step_ahead}
+use Rattle.lexer.proofs.Agree.{fine_well, step_bad, step_scan}
+use Rattle.lexer.proofs.Between.{Between, scan_between}
 
 -- a step that goes ahead
 module _ (s : List ℕ) (m : Mode) (f : ℕ → Step) (ahead : (at : ℕ) → Ahead s m at (f at)) where

@@ -41,11 +41,11 @@ use Rattle.lexer.specs.declared.Word.{Word}
 use Rattle.lexer.specs.declared.Word.TheVariants.{Is, Not}
 use Rattle.lexer.specs.Lex.{run_end, ref_end, or_else, operator_of, ref_of, word_of, got, told, run_of, mark_of, scan_of}
 use Rattle.lexer.specs.Shape.{listed_of, named_of, document_of, ref_at, behind, referred_of, loose_of, other_of, grouped}
-use Rattle.lexer.specs.LexLaws.{mark_plus, mark_open, mark_close, mark_run}
+use Rattle.lexer.proofs.LexLaws.{mark_plus, mark_open, mark_close, mark_run}
 use Rattle.lexer.specs.Sign.{name, reference, exception, addition, plus, WITH, AND, OR, LP, RP}
 use Rattle.lexer.specs.Spelling.{Spoken, said, doc_bytes, heard, behind_doc}
 use Rattle.lexer.specs.Apart.{KnownDoc, KnownRef}
-use Rattle.lexer.specs.Moved.{heard_say, heard_skip}
+use Rattle.lexer.proofs.Moved.{heard_say, heard_skip}
 
 -- a byte from 0x21 to 0x7F is no white space
 no_white : (b : ℕ) (t : List ℕ) → 0x21 ≤ b → b ≤ 0x7F → white_width (b ∷ t) ≡ 0

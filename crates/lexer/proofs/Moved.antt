@@ -64,8 +64,8 @@ use Rattle.lexer.specs.Lex.{
 }
 use Rattle.lexer.specs.Tokens.{Tokens, done, refused, token, and_then, walked, tokens_of}
 use Rattle.lexer.specs.Spelling.{Spoken, bytes_of, doc_bytes, said, said_of, heard}
-use Rattle.lexer.specs.Ahead.{Ahead, scan_ahead}
-use Rattle.lexer.specs.TokensLaws.{tokens_step}
+use Rattle.lexer.proofs.Ahead.{Ahead, scan_ahead}
+use Rattle.lexer.proofs.TokensLaws.{tokens_step}
 
 -- k places further
 abbrev pub move_span : ℕ → Span → Span

@@ -14,7 +14,7 @@ use Rattle.licensee.specs.Terms.{offered_terms, padded, kinds_of, licences_of, a
 use Rattle.masks.specs.Value.{digit}
 use Rattle.minimize.specs.Minimize.{some_of}
 use Rattle.minimize.specs.Posed.{terms, terms_at, triples, bits}
-use Rattle.minimize.specs.ListLaws.{some_append, bits_lt, bits_snoc}
+use Rattle.minimize.proofs.ListLaws.{some_append, bits_lt, bits_snoc}
 
 module _ (k l a : List ℕ) where
   pub triples_length : (n : ℕ) → length (triples k l a n) ≡ n

@@ -41,8 +41,8 @@ use Rattle.minimize.specs.Minimize.{
   places_of,
 }
 use Rattle.minimize.specs.Posed.{node_terms, triples, SmallNodes, Roomy, Asks, Poses, PosesAny}
-use Rattle.minimize.specs.PosedLaws.{tree_of_lem}
-use Rattle.minimize.specs.Satisfaction.{satisfied_none}
+use Rattle.minimize.proofs.PosedLaws.{tree_of_lem}
+use Rattle.minimize.proofs.Satisfaction.{satisfied_none}
 
 -- a list that is refused, whatever the tree: 17
 pub poses_unlisted : (f s : List ℕ) (a : Accepted) (r : Refusal) → a ≡ accepted_of (list_of f) → a.outcome ≡ O.Refused r

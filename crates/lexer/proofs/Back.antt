@@ -12,8 +12,8 @@ use Rattle.lexer.specs.Lex.{mark_of, scan_of}
 use Rattle.lexer.specs.Sign.{name, reference, unknown, exception, addition, plus, WITH, AND, OR, LP, RP, bad}
 use Rattle.lexer.specs.Spelling.{Spoken, heard, spell, spell_all}
 use Rattle.lexer.specs.Apart.{Known, AllKnown, is_run, is_operator, is_plus, Follows, Apart}
-use Rattle.lexer.specs.Moved.{heard_end}
-use Rattle.lexer.specs.Spelled.{
+use Rattle.lexer.proofs.Moved.{heard_end}
+use Rattle.lexer.proofs.SpelledLaws.{
   Free,
   free_run,
   licence_run,

@@ -12,7 +12,7 @@ use Rattle.text.specs.Tests.{by_cond}
 use Rattle.masks.specs.declared.Listing.{Listing}
 use Rattle.masks.specs.declared.Listing.TheVariants.{Found, Paused, Finished, Refused}
 use Rattle.masks.specs.Masks.{minimal, stopped, searched, listed}
-use Rattle.masks.specs.MasksLaws.{examined_end}
+use Rattle.masks.proofs.MasksLaws.{examined_end}
 use Rattle.masks.specs.Promise.{Ascending, Run, over, more, wait, later}
 
 module _ (p : ℕ → Bool) where

@@ -25,8 +25,8 @@ use Rattle.licensee.specs.declared.Terms.{Terms}
 use Rattle.licensee.specs.Offers.{Accepts, good, wrong, list_of}
 use Rattle.licensee.specs.Satisfies.{satisfies, equals}
 use Rattle.licensee.specs.Terms.{offered_terms, SmallLicensee, SmallAll, SmallList, same_terms, meets, padded, kinds_of, licences_of, additions_of, accepted_of}
-use Rattle.licensee.specs.FileLaws.{list_count}
-use Rattle.licensee.specs.TermsLaws.{meets_is, meets_no, equals_is, kinds_small}
+use Rattle.licensee.proofs.FileLaws.{list_count}
+use Rattle.licensee.proofs.TermsLaws.{meets_is, meets_no, equals_is, kinds_small}
 use Rattle.masks.specs.Value.{shares, digit, push, step, run, value}
 use Rattle.minimize.specs.declared.Posed.TheVariants as Q
 use Rattle.minimize.specs.Minimize.{
@@ -49,8 +49,8 @@ use Rattle.minimize.specs.Minimize.{
   place_of,
 }
 use Rattle.minimize.specs.Posed.{kind_terms, node_terms, SmallNodes, triples, found_terms, found_places, mask_of, PosesAny}
-use Rattle.minimize.specs.ListLaws.{Each, each_imp, some_append, found_each, found_map, places_map, digit_lt, bits_map, bits_same, shares_member}
-use Rattle.minimize.specs.TripleLaws.{triples_length, triples_kinds, triples_padded}
+use Rattle.minimize.proofs.ListLaws.{Each, each_imp, some_append, found_each, found_map, places_map, digit_lt, bits_map, bits_same, shares_member}
+use Rattle.minimize.proofs.TripleLaws.{triples_length, triples_kinds, triples_padded}
 
 -- nodes of a tree's side, and licensees, that are small
 small_append : (q r : List Node) → SmallNodes (q ++ r) → SmallNodes q × SmallNodes r

@@ -18,9 +18,9 @@ use Rattle.lexer.specs.declared.Checked.TheVariants.{Fine, Bad}
 use Rattle.lexer.specs.declared.Step.{Step}
 use Rattle.lexer.specs.declared.Step.TheVariants.{Got, Done, Refused}
 use Rattle.lexer.specs.Lex.{run_end, scan_of, check_of, from_of, if_fine, step_of}
-use Rattle.lexer.specs.RunLaws.{run_le, run_all}
-use Rattle.lexer.specs.Ahead.{Answer, ended, mark, word, invalid, unknown, apart, scan_answer}
-use Rattle.lexer.specs.Agree.{fine_well}
+use Rattle.lexer.proofs.RunLaws.{run_le, run_all}
+use Rattle.lexer.proofs.Ahead.{Answer, ended, mark, word, invalid, unknown, apart, scan_answer}
+use Rattle.lexer.proofs.Agree.{fine_well}
 
 -- a part of a text that is not empty, from one boundary between characters to another
 pub record Piece (s : List ℕ) (sp : Span) : Type 0 where

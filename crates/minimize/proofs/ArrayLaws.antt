@@ -11,8 +11,8 @@ use Rattle.licensee.specs.Terms.{same_terms, meets}
 use Rattle.masks.specs.Value.{digit}
 use Rattle.minimize.specs.Minimize.{some_of}
 use Rattle.minimize.specs.Posed.{node_terms, SmallKind, SmallNodes, terms_at, triples, bits, found_terms, found_places}
-use Rattle.minimize.specs.ListLaws.{found_snoc, places_snoc}
-use Rattle.minimize.specs.TripleLaws.{triples_length, triples_next, bits_next, bits_below, map_next}
+use Rattle.minimize.proofs.ListLaws.{found_snoc, places_snoc}
+use Rattle.minimize.proofs.TripleLaws.{triples_length, triples_next, bits_next, bits_below, map_next}
 
 -- one more node
 small_snoc : (q : List Node) (x : Node) → SmallNodes q → SmallKind x.kind → SmallNodes (q ++ (x ∷ []))

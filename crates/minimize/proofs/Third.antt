@@ -17,11 +17,11 @@ use Rattle.licensee.specs.declared.Licensee.{Licensee}
 use Rattle.licensee.specs.Offers.{good, list_of}
 use Rattle.masks.specs.Masks.{listed, chosen}
 use Rattle.masks.specs.Promise.{Kept}
-use Rattle.masks.specs.Kept.{kept, kept_same, chosen_least}
+use Rattle.masks.proofs.Kept.{kept, kept_same, chosen_least}
 use Rattle.masks.specs.declared.Choice.TheVariants as C
 use Rattle.minimize.specs.Minimize.{found_of, satisfied, posed, limited, problem_of, choice_of, listing_of}
-use Rattle.minimize.specs.PosedLaws.{tree_of_lem}
-use Rattle.minimize.specs.Satisfaction.{satisfied_none, satisfied_all}
+use Rattle.minimize.proofs.PosedLaws.{tree_of_lem}
+use Rattle.minimize.proofs.Satisfaction.{satisfied_none, satisfied_all}
 
 module _ (s : List ℕ) (m : Mode) (f : List ℕ) (t : Tree Leaf) (b : Before) (ts : Tokens) (ls : List Licensee)
     (reads : parse_of s m ≡ got (postfix t) b ts) (valid : list_of f ≡ good ls) (few : length (found_of f s t ls) ≤ 30) where

@@ -56,7 +56,7 @@ use Rattle.lexer.specs.Lex.{
   if_fine,
   step_of,
 }
-use Rattle.lexer.specs.RunLaws.{run_ge, run_le, ref_ge, run_byte_lem, run_word, run_ref}
+use Rattle.lexer.proofs.RunLaws.{run_ge, run_le, ref_ge, run_byte_lem, run_word, run_ref}
 
 -- a try's token, in the run from p to e, ends behind p and not behind e
 abbrev pub InRun : ℕ → ℕ → Word → Type 0

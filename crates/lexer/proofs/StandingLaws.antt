@@ -70,9 +70,9 @@ use Rattle.lexer.specs.Tokens.{and_then, walked, tokens_of}
 use Rattle.lexer.specs.Spelling.{Spoken, bytes_of, doc_bytes, said, said_of, heard, behind_doc}
 use Rattle.lexer.specs.Standing.{Standing, StandingStep}
 use Rattle.lexer.specs.Apart.{KnownDoc, KnownRef, KnownOrBad}
-use Rattle.lexer.specs.RunLaws.{run_ge, run_le, ref_ge}
-use Rattle.lexer.specs.LexLaws.{mark_plus}
-use Rattle.lexer.specs.Inner.{document_ge}
+use Rattle.lexer.proofs.RunLaws.{run_ge, run_le, ref_ge}
+use Rattle.lexer.proofs.LexLaws.{mark_plus}
+use Rattle.lexer.proofs.Inner.{document_ge}
 
 -- a part is what stands before a place of it, and then what stands from there on
 part_join : (s : List ℕ) (a b c : ℕ) → a ≤ b → b ≤ c → part a c s ≡ part a b s ++ part b c s

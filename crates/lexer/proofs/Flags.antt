@@ -14,7 +14,7 @@ use Rattle.lexer.specs.declared.Step.{Step}
 use Rattle.lexer.specs.declared.Step.TheVariants.{Got, Done, Refused}
 use Rattle.lexer.specs.Lex.{run_end, imprecise_at, unknown_of, word_of, got, told, run_of, mark_of, scan_of, check_of, from_of, if_fine, step_of}
 use Rattle.lexer.specs.Tokens.{Tokens, and_then, walked, tokens_of, steps_of}
-use Rattle.lexer.specs.TokensLaws.{Next, walked_same}
+use Rattle.lexer.proofs.TokensLaws.{Next, walked_same}
 
 -- two modes that agree in the flags of the lexer
 pub record Alike (m n : Mode) : Type 0 where

@@ -16,7 +16,7 @@ use Rattle.lexer.specs.declared.Checked.{Checked}
 use Rattle.lexer.specs.declared.Checked.TheVariants.{Fine, Bad}
 use Rattle.lexer.specs.declared.Step.TheVariants.{Refused}
 use Rattle.lexer.specs.Lex.{scan_of, check_of, from_of, if_fine, step_of}
-use Rattle.lexer.specs.LexLaws.{from_out, from_in}
+use Rattle.lexer.proofs.LexLaws.{from_out, from_in}
 
 -- a text that is refused may not be read
 bad_fine : {A : Type 0} (r : Refusal) → Bad r ≡ Fine → A

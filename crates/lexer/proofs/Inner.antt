@@ -58,7 +58,7 @@ use Rattle.lexer.specs.Lex.{
   mark_of,
   scan_of,
 }
-use Rattle.lexer.specs.RunLaws.{ref_ge}
+use Rattle.lexer.proofs.RunLaws.{ref_ge}
 
 -- a document part stands from a on, and ends before b
 pub record PartInside (q : Span) (a b : ℕ) : Type 0 where

@@ -20,9 +20,9 @@ use Rattle.lexer.specs.declared.Step.{Step}
 use Rattle.lexer.specs.declared.Step.TheVariants as S
 use Rattle.lexer.specs.Lex.{scan_of, check_of}
 use Rattle.lexer.specs.Tokens.{Tokens, and_then, tokens_of}
-use Rattle.lexer.specs.TokensLaws.{tokens_step}
-use Rattle.lexer.specs.Ahead.{Ahead, scan_ahead}
-use Rattle.lexer.specs.Inner.{DocInside, RefInside, Inside, InsideStep, scan_inside}
+use Rattle.lexer.proofs.TokensLaws.{tokens_step}
+use Rattle.lexer.proofs.Ahead.{Ahead, scan_ahead}
+use Rattle.lexer.proofs.Inner.{DocInside, RefInside, Inside, InsideStep, scan_inside}
 use Rattle.licensee.specs.declared.Licensed.TheVariants as C
 use Rattle.licensee.specs.declared.Added.{Added}
 use Rattle.licensee.specs.declared.Added.TheVariants as X

@@ -39,8 +39,8 @@ use Rattle.minimize.specs.Minimize.{
   place_of,
   places_of,
 }
-use Rattle.minimize.specs.ListLaws.{Each, found_places_lem, places_length}
-use Rattle.minimize.specs.PosedLaws.{tree_of_lem}
+use Rattle.minimize.proofs.ListLaws.{Each, found_places_lem, places_length}
+use Rattle.minimize.proofs.PosedLaws.{tree_of_lem}
 
 -- places from i on are below n, where the list ends at n
 places_below : {A : Type 0} (same : A → A → Bool) (wanted : A → Bool) (n : ℕ) (fs l : List A) (i : ℕ) → i + length l ≤ n

@@ -1,0 +1,14 @@
+pub mod Agree
+pub mod Ahead
+pub mod Back
+pub mod Between
+pub mod Flags
+pub mod Inner
+pub mod LexLaws
+pub mod Moved
+pub mod RunLaws
+pub mod SpelledLaws
+pub mod StandingLaws
+pub mod TokensLaws
+pub mod Unique
+pub mod Worked

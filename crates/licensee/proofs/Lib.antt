@@ -1,0 +1,6 @@
+pub mod BodyLaws
+pub mod Faults
+pub mod FileLaws
+pub mod TermsLaws
+pub mod Unique
+pub mod Worked

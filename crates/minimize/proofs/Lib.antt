@@ -1,0 +1,10 @@
+pub mod ArrayLaws
+pub mod AskLaws
+pub mod ListLaws
+pub mod PlacesLaws
+pub mod PosedLaws
+pub mod ProblemLaws
+pub mod Satisfaction
+pub mod Third
+pub mod TripleLaws
+pub mod Unique
