@@ -21,7 +21,7 @@ pub check_spec : {M : Type 1} → statement M
 check_spec =
     tie.close
     (tie.spec
-    (λ c. sym (check_long _ c.if-s-gt1024.true))
+    (λ c. sym (check_long _ (omega arith)))
     (λ c κs. search rules)
     (λ c. search rules)
     returns-2

@@ -9,7 +9,7 @@ pub mark_spec : {M : Type 1} → statement M
 mark_spec =
     tie.close
     (tie.spec
-    (λ c. mark_done _ _ _ _ c.if-s-p.true)
+    (λ c. mark_done _ _ _ _ (omega arith))
     (λ c. search rules)
     (λ c. search rules)
     (λ c κs. search rules)

@@ -1,3 +1,4 @@
+use native.Mathlib.Omega.{arith}
 use borrow.Author.Rules.{rules}
 use borrow.Author.Tests.{lt-ltb, le-ltb}
 use Rattle.parser.specs.Turn.{open_action}
@@ -13,5 +14,5 @@ open_spec =
     (λ c κs. search rules)
     (λ c. search rules)
     (λ c. search rules)
-    (λ c. simp (c.narrow.ensures, lt-ltb _ _ c.if-st-lt32.true))
-    (λ c. simp (le-ltb _ _ c.if-st-lt32.false)))
+    (λ c. simp (c.narrow.ensures, lt-ltb c.args.st.opens 32 (omega arith)))
+    (λ c. simp (le-ltb c.args.st.opens 32 (omega arith))))

@@ -1,3 +1,4 @@
+use native.Mathlib.Omega.{arith}
 use borrow.Author.Rules.{rules}
 use borrow.Author.Tests.{lt-ltb, le-ltb}
 use Rattle.parser.specs.Turn.{leaf_action}
@@ -11,5 +12,5 @@ put_spec =
     (tie.spec
     (λ c. search rules)
     (λ c. search rules)
-    (λ c. simp (lt-ltb _ _ c.if-st-lt64.true))
-    (λ c. simp (le-ltb _ _ c.if-st-lt64.false)))
+    (λ c. simp (lt-ltb c.args.st.leaves 64 (omega arith)))
+    (λ c. simp (le-ltb c.args.st.leaves 64 (omega arith))))
