@@ -70,23 +70,10 @@ loop-holds c = (omega arith, omega arith, λ j h e. absurd (omega arith))
 compare-requires : tie.Need-compare-o-requires invariant-loop decreases-loop
 compare-requires c κs = (c.requires.0, omega arith)
 
-returns : tie.Need-returns-in-Equal invariant-loop decreases-loop
-returns c =
-    hit c.args.from c.args.to c.requires.2 c.requires.3 c.args.run.now c.loop-k.k (omega arith) (omega arith)
-    (sym c.compare-o.ensures ∙ c.in-Equal.is)
-
 returns-2 : tie.Need-returns-in-Less invariant-loop decreases-loop
 returns-2 c =
     over c.args.from c.args.to c.requires.2 c.requires.3 c.args.run.now c.loop-k.k (omega arith) (omega arith)
     (sym c.compare-o.ensures ∙ c.in-Less.is) c.loop-k.invariant.2
-
-loop-again : tie.Need-loop-k-preserved-in-Greater invariant-loop decreases-loop
-loop-again c = (
-  omega arith,
-  omega arith,
-  on c.args.from c.args.to c.requires.2 c.requires.3 c.args.run.now c.loop-k.k (omega arith) (omega arith)
-      (sym c.compare-o.ensures ∙ c.in-Greater.is),
-)
 
 loop-again-2 : tie.Need-loop-k-preserved invariant-loop decreases-loop
 loop-again-2 c = (
@@ -111,13 +98,13 @@ find_spec =
     compare-requires
     (λ c. search rules)
     (λ c. omega arith)
-    returns
+    (λ c. hit c.args.from c.args.to c.requires.2 c.requires.3 c.args.run.now c.loop-k.k (omega arith) (omega arith) (sym c.compare-o.ensures ∙ search rules))
     (λ c. search rules)
     returns-2
     (λ c. search rules)
     (λ c. omega arith)
     (λ c. omega arith)
-    loop-again
+    (λ c. (omega arith, omega arith, on c.args.from c.args.to c.requires.2 c.requires.3 c.args.run.now c.loop-k.k (omega arith) (omega arith) (sym c.compare-o.ensures ∙ search rules)))
     (λ c. omega arith)
     (λ c. omega arith)
     loop-again-2

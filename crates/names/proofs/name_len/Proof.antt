@@ -6,8 +6,5 @@ use Rattle.names.proofs.LayoutLaws.{counts, unnamed}
 use Rattle.names.proofs.name_len.Statement.{statement}
 use Rattle.names.proofs.name_len.Tie as tie
 
-returns-2 : tie.Need-returns-else-k-lt-NAMES
-returns-2 c = sym (ap length (unnamed c.args.k (omega counts)))
-
 pub name_len_spec : {M : Type 1} → statement M
-name_len_spec = tie.close (tie.spec (λ c κs. search (rules, counts)) (λ c. search rules) returns-2)
+name_len_spec = tie.close (tie.spec (λ c κs. search (rules, counts)) (λ c. search rules) (λ c. sym (ap length (unnamed c.args.k (omega counts)))))
