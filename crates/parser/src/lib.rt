@@ -649,14 +649,10 @@ fn refuse(x: Refusal) -> Parsed
     ensures { result ≡ answer_of (refused x) }
 {
     let b = Node { kind: Kind::Blank };
-    let mut nodes = [b; 127];
-    // a store at a place that only the run knows keeps the compiler from taking the array apart, and a parse that reads from copying it so
-    let i = refusal::number(x) as usize % 127;
-    nodes[i] = b;
     Parsed {
         outcome: Outcome::Refused(x),
         count: 0,
-        nodes: nodes,
+        nodes: [b; 127],
     }
 }
 
