@@ -61,7 +61,7 @@ pub enum Outcome {
 }
 
 // The nodes in postfix; those past the count are blank.
-#[derive(Drop)]
+#[derive(Clone, Copy)]
 pub struct Parsed {
     pub outcome: Outcome,
     pub count: usize,

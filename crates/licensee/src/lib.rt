@@ -64,7 +64,7 @@ pub struct Terms {
 }
 
 // The licensees of a file as numbers, or 17.
-#[derive(Drop)]
+#[derive(Clone, Copy)]
 pub struct Accepted {
     pub outcome: Outcome,
     pub count: usize,

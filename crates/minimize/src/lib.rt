@@ -17,7 +17,7 @@ use mode::Mode;
 use refusal::Refusal;
 
 // What becomes of a text: how many nodes it has, whose numbers are written, or why it has none.
-#[derive(Drop)]
+#[derive(Clone, Copy)]
 pub enum Asked {
     Nodes(usize),
     Refused(Refusal),
@@ -31,7 +31,7 @@ pub enum Finding {
 }
 
 // What choice and listing are about: how many licensees are found and how many nodes there are; or why there is nothing to look for.
-#[derive(Drop)]
+#[derive(Clone, Copy)]
 pub enum Posed {
     Is { found: u32, count: usize },
     Refused(Refusal),

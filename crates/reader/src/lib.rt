@@ -7,9 +7,9 @@ ghost use Rattle.lexer.specs.Lex.{step_of};
 pub use lexer::{Cursor, Step};
 pub use mode::Mode;
 
-// It borrows the text. The borrow checker covers no function over such a struct, so each is thin and proved by hand, and
-// the work is left to the lexer's step, which is covered. The fields stand in the order in which that step takes them.
-#[derive(Drop)]
+// It borrows the text. Each function over it is thin, and the work is left to the lexer's step. The fields stand in the order in which that
+// step takes them.
+#[derive(Clone, Copy)]
 pub struct Reader<'a> {
     pub cursor: Cursor,
     pub text: &'a [u8],
@@ -38,7 +38,7 @@ pub fn moved<'a>(r: Reader<'a>, cursor: Cursor) -> Reader<'a>
     }
 }
 
-// The same on plain parameters: a caller of this function is covered.
+// The same on plain parameters, for a caller that holds no reader.
 pub fn step_at(text: &[u8], mode: Mode, place: usize) -> Step
     ensures { result ≡ step_of text.now mode place }
 {
