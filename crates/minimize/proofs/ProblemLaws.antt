@@ -156,3 +156,13 @@ module _ (p : Posed) (c t g : List ℕ) (y : Places) where
 pub posed_empty : (c t g : List ℕ) (k n : ℕ) (s : List ℕ) (m : Mode) (f : List ℕ) (y : Places) → Stands c t g k n (problem_of s m f) y
     → value (take n c) (take n t) 0 ≡ false
 posed_empty c t g k n s m f y w = subst EmptyFails w.problem (empty_fails s m f)
+
+-- the same of a text, a mode and a list: what a call of pose answers of them
+module _
+    (s : List ℕ) (m : Mode) (f : List ℕ) (p : Posed) (c t g : List ℕ) (h : Poses p (problem_of s m f) (places_of s m f) c t g)
+  where
+    pub call_refused : (r : Refusal) → p ≡ Q.Refused r → (problem_of s m f ≡ refused r) × (places_of s m f ≡ unplaced r)
+    call_refused r = posed_refused p c t g (places_of s m f) (problem_of s m f) r h
+
+    pub call_read : (k n : ℕ) → p ≡ Q.Is k n → Stands c t g k n (problem_of s m f) (places_of s m f)
+    call_read k n = posed_read p c t g (places_of s m f) (problem_of s m f) k n h
