@@ -1,13 +1,12 @@
 -- The worked case of document 01 on the definitions, and questions at the edges of its rules: one table, computed, under one claim.
-use Rattle.std.specs.Prelude.{ℕ, ◌≡◌, refl, Bool, false, List, [], ◌∷◌, map}
-use Rattle.text.specs.First.{first}
+use Rattle.std.specs.Prelude.{ℕ, Bool, false, List, [], ◌∷◌}
 use Rattle.refusal.specs.declared.Refusal.TheVariants.{RequirementsUnmet, BadCursor, NoBudget}
 use Rattle.masks.specs.declared.Choice.{Choice}
 use Rattle.masks.specs.declared.Choice.TheVariants as C
 use Rattle.masks.specs.declared.Listing.{Listing}
 use Rattle.masks.specs.declared.Listing.TheVariants as L
-use Rattle.masks.specs.Masks.{has, spare, minimal, examined, stopped, searched, settled, listed, chosen}
-use Rattle.masks.specs.Value.{shares, push, step, run, value}
+use Rattle.masks.specs.Masks.{listed, chosen}
+use Rattle.masks.specs.Value.{value}
 
 -- `(MIT AND ISC) OR 0BSD` with the list MIT, ISC, 0BSD; and an expression of which no licensee is found
 pub data Case : Type 0 where

@@ -4,7 +4,6 @@ use Rattle.std.specs.Prelude.{ℕ, ◌+◌, ◌≤◌, ◌<◌, ◌≡◌, refl,
 use mathlib.Core.List.{List, [], ◌∷◌, ◌++◌, map}
 use Rattle.std.proofs.Math.Option.{Option, none, some}
 use Rattle.std.proofs.Common.{arith, le-ltb}
-use Rattle.refusal.specs.declared.Refusal.{Refusal}
 use Rattle.mode.specs.declared.Mode.{Mode}
 use Rattle.lexer.specs.Tokens.{Tokens}
 use Rattle.grammar.specs.declared.Leaf.{Leaf}
@@ -15,30 +14,7 @@ use Rattle.grammar.specs.Grammar as Grammar
 use Rattle.licensee.specs.declared.Licensee.{Licensee}
 use Rattle.licensee.specs.Offers.{Accepts, good, wrong, list_of}
 use Rattle.licensee.specs.Satisfies.{equals}
-use Rattle.minimize.specs.Minimize.{
-  some_of,
-  found_after,
-  found_at,
-  tree_of,
-  wanted,
-  found_of,
-  places_in,
-  of_list,
-  of_tree,
-  of_text,
-  Problem,
-  refused,
-  posed,
-  limited,
-  pose_of,
-  problem_of,
-  Places,
-  unplaced,
-  placed,
-  few_places,
-  place_of,
-  places_of,
-}
+use Rattle.minimize.specs.Minimize.{some_of, found_at, tree_of, wanted, found_of, places_in, of_list, of_tree, of_text, Problem, refused, posed, limited, pose_of, problem_of, Places, unplaced, placed, few_places, place_of, places_of}
 use Rattle.minimize.proofs.ListLaws.{Each, found_places_lem, places_length}
 use Rattle.minimize.proofs.PosedLaws.{tree_of_lem}
 

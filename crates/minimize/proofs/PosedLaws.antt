@@ -29,25 +29,7 @@ use Rattle.licensee.proofs.FileLaws.{list_count}
 use Rattle.licensee.proofs.TermsLaws.{meets_is, meets_no, equals_is, kinds_small}
 use Rattle.masks.specs.Value.{shares, digit, push, step, run, value}
 use Rattle.minimize.specs.declared.Posed.TheVariants as Q
-use Rattle.minimize.specs.Minimize.{
-  some_of,
-  member,
-  on_top,
-  tree_of,
-  wanted,
-  found_of,
-  places_in,
-  satisfied,
-  of_list,
-  refused,
-  limited,
-  pose_of,
-  Places,
-  unplaced,
-  placed,
-  few_places,
-  place_of,
-}
+use Rattle.minimize.specs.Minimize.{some_of, member, on_top, tree_of, wanted, found_of, places_in, satisfied, of_list, refused, limited, pose_of, unplaced, placed, few_places, place_of}
 use Rattle.minimize.specs.Posed.{kind_terms, node_terms, SmallNodes, triples, found_terms, found_places, mask_of, PosesAny}
 use Rattle.minimize.proofs.ListLaws.{Each, each_imp, some_append, found_each, found_map, places_map, digit_lt, bits_map, bits_same, shares_member}
 use Rattle.minimize.proofs.TripleLaws.{triples_length, triples_kinds, triples_padded}

@@ -12,7 +12,6 @@ use Rattle.std.proofs.Math.ListN.{get_elem?}
 use borrow.Author.Tests.{eqb-true, eq-eqb}
 use Rattle.text.specs.Tests.{both}
 use Rattle.grammar.specs.declared.Leaf.{Leaf}
-use Rattle.grammar.specs.Tree as Tree
 use Rattle.grammar.specs.Tree.{Tree, just, either, meaning}
 use Rattle.licensee.specs.declared.Licensee.{Licensee}
 use Rattle.licensee.specs.Satisfies.{satisfies}

@@ -1,13 +1,9 @@
 -- The search is among the lesser of the budget and all masks, and the mask of all satisfies, so it never has to go on behind them.
 use Rattle.std.proofs.Common.{sym, ◌∙◌, arith}
-use lib.Pow.{pow_pos, pow_mono}
 use Rattle.masks.specs.Bits.{shl_one}
 use Rattle.masks.proofs.MasksLaws.{chosen_unmet, chosen_none, chosen_some, chosen_all}
 use Rattle.masks.proofs.choose.Goals as goal
 use Rattle.masks.proofs.choose.Goals.{then-budget-all, else-budget-all}
-
-pub overflow_sub-all : goal.overflow_sub-all
-overflow_sub-all c = rw (shl_one c.args.k c.requires.1) (pow_pos c.args.k)
 
 pub returns-then-not-evaluate : goal.returns-then-not-evaluate
 returns-then-not-evaluate c =
@@ -18,12 +14,6 @@ pub returns-then-budget-eq0 : goal.returns-then-budget-eq0
 returns-then-budget-eq0 c =
     let e = sym c.evaluate.ensures ∙ c.if-not-evaluate.false in
     sym (chosen_none _ c.args.k _ (rw (shl_one c.args.k c.requires.1) at e) c.if-budget-eq0.true)
-
-pub settle-requires : goal.settle-requires
-settle-requires c =
-    let e = shl_one c.args.k c.requires.1 in
-    let p = pow_mono {i = c.args.k} {j = 63} (omega arith) in
-    (c.requires.0, elim c.if-budget-all.branch [ then-budget-all w ↦ omega arith | else-budget-all w ↦ omega arith ])
 
 pub returns : goal.returns
 returns c =

@@ -22,17 +22,6 @@ returns-then-budget-eq0 c =
     let w = within c.args.cursor _ (rw e at c.if-cursor-end.false) in
     sym (listed_none _ c.args.k _ _ w.0 w.1 c.if-budget-eq0.true)
 
-pub overflow_sub-left : goal.overflow_sub-left
-overflow_sub-left c = (within c.args.cursor _ c.if-cursor-end.false).1
-
-pub search-requires : goal.search-requires
-search-requires c =
-    let w = within c.args.cursor _ c.if-cursor-end.false in (
-      c.requires.0,
-      omega arith,
-      elim c.if-budget-left.branch [ then-budget-left v ↦ omega arith | else-budget-left v ↦ omega arith ],
-    )
-
 pub returns : goal.returns
 returns c =
     let e = shl_one c.args.k c.requires.1 in

@@ -1,21 +1,8 @@
 -- What is posed is the problem, and the choice by the evaluator is the choice.
 use Rattle.std.proofs.Common.{sym, ap, arith}
-use lib.Seq.{length-take-le}
 use Rattle.minimize.specs.Minimize.{Problem, chosen_in, choice_of}
 use Rattle.minimize.proofs.ProblemLaws.{call_refused, call_read, posed_empty}
 use Rattle.minimize.proofs.choice.Goals as goal
-
-pub slice_bounds-codes-end : goal.slice_bounds-codes-end
-slice_bounds-codes-end c = (call_read c.args.s.now c.args.m c.args.file.now _ _ _ _ c.pose.ensures _ _ c.in-Is.is).codes
-
-pub slice_bounds-choose-end : goal.slice_bounds-choose-end
-slice_bounds-choose-end c = sym (length-take-le _ _ (call_read c.args.s.now c.args.m c.args.file.now _ _ _ _ c.pose.ensures _ _ c.in-Is.is).codes)
-
-pub slice_bounds-met-end : goal.slice_bounds-met-end
-slice_bounds-met-end c = (call_read c.args.s.now c.args.m c.args.file.now _ _ _ _ c.pose.ensures _ _ c.in-Is.is).masks
-
-pub slice_bounds-choose-end-in-Is : goal.slice_bounds-choose-end-in-Is
-slice_bounds-choose-end-in-Is c = sym (length-take-le _ _ (call_read c.args.s.now c.args.m c.args.file.now _ _ _ _ c.pose.ensures _ _ c.in-Is.is).masks)
 
 pub choose-requires : goal.choose-requires
 choose-requires c =

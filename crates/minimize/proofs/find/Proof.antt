@@ -4,7 +4,6 @@ use mathlib.Core.Path.{◌≡◌, refl, sym, ◌∙◌}
 use native.Mathlib.Omega.{arith}
 use lib.ListN.{length, take, length-set}
 use borrow.Author.Rules.{rules}
-use borrow.Author.Tests.{not-true, not-false}
 use Rattle.minimize.specs.Minimize.{found_after, found_at}
 use Rattle.minimize.specs.Posed.{triples, found_terms, found_places}
 use Rattle.minimize.proofs.TripleLaws.{triples_push}

@@ -1,20 +1,9 @@
 -- What is posed is refused, or the places of the found stand in the array, and are written.
-use Rattle.std.proofs.Common.{refl, sym, ap, arith}
+use Rattle.std.proofs.Common.{refl, sym, ap}
 use Rattle.minimize.specs.Minimize.{found_answer, found_buffer}
 use Rattle.minimize.specs.declared.Finding.TheVariants as F
 use Rattle.minimize.proofs.ProblemLaws.{call_refused, call_read}
 use Rattle.minimize.proofs.found.Goals as goal
-
-pub slice_bounds-places-end : goal.slice_bounds-places-end
-slice_bounds-places-end c = (call_read c.args.s.now c.args.m c.args.file.now _ _ _ _ c.pose.ensures _ _ c.in-Is.is).spots
-
-pub slice_bounds-put-end-in-Is : goal.slice_bounds-put-end-in-Is
-slice_bounds-put-end-in-Is c = sym (call_read c.args.s.now c.args.m c.args.file.now _ _ _ _ c.pose.ensures _ _ c.in-Is.is).many
-
-pub put-requires : goal.put-requires
-put-requires c =
-    let w = call_read c.args.s.now c.args.m c.args.file.now _ _ _ _ c.pose.ensures _ _ c.in-Is.is in
-    omega (arith, w.many, w.few)
 
 pub returns-in-Refused : goal.returns-in-Refused
 unfolding found_answer found_buffer

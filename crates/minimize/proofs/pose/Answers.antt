@@ -1,23 +1,7 @@
 -- A text that is refused is the problem's refusal; one that reads is a tree's nodes.
-use Rattle.std.proofs.Common.{refl, sym}
+use Rattle.std.proofs.Common.{refl}
 use Rattle.minimize.proofs.ProblemLaws.{problem_unread, problem_read}
 use Rattle.minimize.proofs.pose.Goals as goal
-
-pub slice_bounds-pose_read-end-in-Nodes : goal.slice_bounds-pose_read-end-in-Nodes
-slice_bounds-pose_read-end-in-Nodes c =
-    let w = problem_read _ _ c.args.file.now _ _ _ c.ask.result c.ask.ensures _ c.in-Nodes.is in
-    sym w.room.1
-
-pub slice_bounds-pose_read-end-in-Nodes-2 : goal.slice_bounds-pose_read-end-in-Nodes-2
-slice_bounds-pose_read-end-in-Nodes-2 c =
-    let w = problem_read _ _ c.args.file.now _ _ _ c.ask.result c.ask.ensures _ c.in-Nodes.is in
-    sym w.room.2
-
-pub pose_read-requires : goal.pose_read-requires
-pose_read-requires c =
-    let w = problem_read _ _ c.args.file.now _ _ _ c.ask.result c.ask.ensures _ c.in-Nodes.is in
-    let h = c.requires in
-    (w.few, w.room.0, w.room.1, w.room.2, h.1, h.2)
 
 pub returns-in-Refused : goal.returns-in-Refused
 returns-in-Refused c =
