@@ -1,6 +1,5 @@
 -- Laws of the names that are handed out: which row of the table a listed name has, and that there is none past the end.
-use Rattle.std.specs.Prelude.{ℕ, ◌+◌, ◌≤◌, ◌<◌, ◌≡◌, refl, List, [], eqb, leb, length}
-use Prim.Native.String.{String}
+use Rattle.std.specs.Prelude.{ℕ, ◌+◌, ◌≤◌, ◌<◌, ◌≡◌, List, [], eqb, leb, length}
 use Rattle.std.proofs.Math.Path.{sym, ap}
 use Rattle.std.proofs.Common.{subst, ◌∙◌, arith}
 use Rattle.std.proofs.Math.ListN.{length-map, get_or-eq_default}
@@ -12,8 +11,8 @@ use Rattle.text.proofs.OverlayLaws.{overlay_none}
 use Rattle.names.specs.Name.{Listed}
 use Rattle.names.specs.Listed.{listed, exceptions}
 use Rattle.names.specs.Lookup.{bytes_at, licence_texts, licence_name, exception_name}
-use Rattle.names.specs.Layout.{rows, name_at}
-use Rattle.names.proofs.LayoutLaws.{counts, licence_row, exception_row}
+use Rattle.names.specs.Layout.{name_at}
+use Rattle.names.proofs.LayoutLaws.{licence_row, exception_row}
 use Rattle.packed.specs.Packed.{answered_as, small_as}
 use Rattle.terminal.specs.Answers.{name_in, name_as, name_bytes}
 

@@ -1,35 +1,10 @@
 -- Document 01's worked texts that are marked P, all of them and no others: one table, computed, under one claim. Answers are in document 01's words: a
 -- listed name is its bytes, a reference its ranges, a refusal its number and last column. A text for which document 01 names no mode is asked in STRICT
 -- and in LAX. The worked texts without a P, and questions at the edges of the rules, stand in the tables of the crates below.
-use Rattle.std.specs.Prelude.{ℕ, ◌≡◌, refl, Bool, false, List, [], ◌∷◌, ◌++◌, map, replicate}
+use Rattle.std.specs.Prelude.{ℕ, Bool, false, List, [], ◌∷◌, ◌++◌, map, replicate}
 use Prim.Native.String.{String}
-use Rattle.text.specs.Text.{ascii, begins, same, ends, within, part}
-use Rattle.text.specs.Overlay.{overlay}
-use Rattle.text.specs.Walk.{over, reach, one}
-use Rattle.text.specs.First.{first}
-use Rattle.text.specs.Runs.{ref_byte, run_byte}
-use Rattle.utf8.specs.Utf8.{lowest, highest, two, three, four, decoded, front, char_width, first_ill, white_of, white_width, past_white}
-use Rattle.names.specs.Listed.{listed, exceptions, imprecise}
-use Rattle.names.specs.Lookup.{
-  seek,
-  lookup,
-  licence_texts,
-  imprecise_texts,
-  licence_of,
-  exception_of,
-  bytes_at,
-  licence_name,
-  exception_name,
-  deprecated_of,
-  gnu_of,
-  is_later,
-  is_bare,
-  stem,
-  later_of,
-  stands_for,
-  longest,
-  imprecise_of,
-}
+use Rattle.text.specs.Text.{ascii}
+use Rattle.names.specs.Lookup.{licence_name, exception_name}
 use Rattle.refusal.specs.Refused.{span, number_of, column_of}
 use Rattle.refusal.specs.declared.Expected.{Expected}
 use Rattle.refusal.specs.declared.Expected.TheVariants as E
@@ -37,8 +12,6 @@ use Rattle.refusal.specs.declared.Column.{Column}
 use Rattle.refusal.specs.declared.Column.TheVariants.{Place, PlaceAndSet}
 use Rattle.mode.specs.declared.Mode.{Mode}
 use Rattle.mode.specs.Modes.{strict, lax}
-use Rattle.lexer.specs.Lex.{run_end, ref_end, operator_of, ref_of, documented, imprecise_at, unknown_of, word_of, run_of, mark_of, scan_of, check_of}
-use Rattle.lexer.specs.Tokens.{walked, tokens_of}
 use Rattle.grammar.specs.declared.Part.{Part}
 use Rattle.grammar.specs.declared.Part.TheVariants as P
 use Rattle.grammar.specs.declared.Licence.{Licence}
@@ -48,32 +21,15 @@ use Rattle.grammar.specs.declared.Addition.TheVariants as A
 use Rattle.grammar.specs.declared.Kind.{Kind}
 use Rattle.grammar.specs.declared.Kind.TheVariants as K
 use Rattle.grammar.specs.declared.Node.{Node}
-use Rattle.grammar.specs.Leaves.{name_start, gnu_move, plus_move, move_of, tail_of}
-use Rattle.grammar.specs.Grammar.{Result, got, refused, and_level, parse_of}
+use Rattle.grammar.specs.Grammar.{Result, got, refused, parse_of}
 use Rattle.canonical.specs.declared.Answer.{Answer}
 use Rattle.canonical.specs.declared.Answer.TheVariants as W
-use Rattle.canonical.specs.Canonical.{alone, plussed, canon_from, canonical_of, answer_of, buffer_of}
-use Rattle.licensee.specs.Offers.{name_in, body_of, at16, offset, size, placed, offer_of, entries_from, contents, list_of}
-use Rattle.licensee.specs.Satisfies.{same_range, satisfies, equals}
-use Rattle.masks.specs.Masks as Masks
-use Rattle.masks.specs.Masks.{has, spare, minimal, examined, stopped, searched, settled, chosen}
+use Rattle.canonical.specs.Canonical.{canonical_of, answer_of, buffer_of}
 use Rattle.masks.specs.declared.Choice.{Choice}
 use Rattle.masks.specs.declared.Choice.TheVariants as C
 use Rattle.masks.specs.declared.Listing.{Listing}
 use Rattle.masks.specs.declared.Listing.TheVariants as M
-use Rattle.minimize.specs.Minimize.{
-  some_of,
-  found_after,
-  member,
-  tree_of,
-  wanted,
-  found_of,
-  satisfied,
-  limited,
-  problem_of,
-  choice_of,
-  listing_of,
-}
+use Rattle.minimize.specs.Minimize.{choice_of, listing_of}
 
 -- a text in a mode; the size of a lent buffer and a text; mode, text, list file and budget, or cursor and budget
 pub data Question : Type 0 where

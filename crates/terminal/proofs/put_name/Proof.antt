@@ -1,6 +1,5 @@
 -- The name, where it has room.
-use Prim.Native.Nat.{ℕ}
-use mathlib.Core.Path.{◌≡◌, sym, ap, ◌∙◌}
+use mathlib.Core.Path.{sym, ap, ◌∙◌}
 use native.Mathlib.Omega.{arith}
 use Rattle.names.specs.Layout.{name_at}
 use Rattle.packed.specs.Packed.{answered_as, small_as}

@@ -1,5 +1,5 @@
 -- By what was answered; the buffer is as it was left.
-use mathlib.Core.Path.{◌≡◌, sym, ap, ◌∙◌}
+use mathlib.Core.Path.{sym, ap, ◌∙◌}
 use Rattle.terminal.specs.Answers.{canonical_as}
 use borrow.Author.Rules.{rules}
 use Rattle.terminal.proofs.tasgilfrem_canonical.Statement.{statement}

@@ -1,5 +1,5 @@
 -- By what the check answered.
-use mathlib.Core.Path.{◌≡◌, sym, ap, ◌∙◌}
+use mathlib.Core.Path.{sym, ap, ◌∙◌}
 use Rattle.terminal.specs.Answers.{list_as}
 use borrow.Author.Rules.{rules}
 use Rattle.terminal.proofs.tasgilfrem_list.Statement.{statement}

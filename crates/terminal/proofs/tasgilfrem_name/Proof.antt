@@ -1,8 +1,7 @@
 -- The row of the table that the part and the place say.
 use Prim.Native.Nat.{ℕ}
-use mathlib.Core.Path.{◌≡◌, sym, ap, ◌∙◌}
+use mathlib.Core.Path.{sym, ap, ◌∙◌}
 use mathlib.Core.List.{List}
-use native.Mathlib.Omega.{arith}
 use Rattle.names.specs.Listed.{listed_count}
 use Rattle.names.proofs.LayoutLaws.{counts}
 use Rattle.terminal.specs.Answers.{name_in, name_as, name_bytes}
