@@ -45,11 +45,14 @@ impl Mode {
             unknown: false,
         }
     }
+}
 
-    // The mode of five bits: slash 1, imprecise 2, gnu_plus 4, deprecated 8, unknown 16. Higher bits say nothing.
-    pub fn of(bits: u8) -> Self
-        ensures { result ≡ mode_of bits }
-    {
+// The mode of five bits: slash 1, imprecise 2, gnu_plus 4, deprecated 8, unknown 16. Higher bits say nothing.
+impl From<u8> for Mode {
+    ghost from_gives = { λ bits mode. mode ≡ mode_of bits };
+
+    #[tactic(auto, unfolding(crate::specs::Modes::mode_of))]
+    fn from(bits: u8) -> Self {
         Mode {
             slash: bits % 2 == 1,
             imprecise: bits / 2 % 2 == 1,

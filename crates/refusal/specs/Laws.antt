@@ -1,5 +1,5 @@
 -- A refusal is told by its number and its last column, and a set for 6 by its members: no two refusals say the same.
-use Rattle.std.specs.Prelude.{ℕ, ◌-◌, ◌≡◌, refl, cond, List, [], ◌∷◌, get_or, eqb}
+use Rattle.std.specs.Prelude.{ℕ, ◌-◌, ◌≡◌, refl, cond, [], ◌∷◌, get_or, eqb}
 use Rattle.std.proofs.Common.{sym, ◌∙◌, ap}
 use Rattle.refusal.specs.declared.Span.{Span}
 use Rattle.refusal.specs.declared.Expected.{Expected}

@@ -5,14 +5,14 @@ ghost use Rattle.std.specs.Prelude.{◌≡◌};
 ghost use Rattle.refusal.specs.Refused.{number_of, column_of, set_of};
 
 // A range of bytes.
-#[derive(Clone, Copy)]
+#[derive(Clone, Copy, Debug, PartialEq, Eq)]
 pub struct Span {
     pub start: usize,
     pub end: usize,
 }
 
 // What may stand where refusal 6 is given, by the token before.
-#[derive(Clone, Copy)]
+#[derive(Clone, Copy, Debug, PartialEq, Eq)]
 pub enum Expected {
     // none, AND, OR or `(` before
     Term,
@@ -30,7 +30,7 @@ pub enum Expected {
     Licence,
 }
 
-#[derive(Clone, Copy)]
+#[derive(Clone, Copy, Debug, PartialEq, Eq)]
 pub enum Refusal {
     // 1: one byte, where the first ill-formed sequence starts
     NotUtf8(Span),
@@ -77,7 +77,7 @@ pub enum Refusal {
 }
 
 // The table's last column.
-#[derive(Clone, Copy)]
+#[derive(Clone, Copy, Debug, PartialEq, Eq)]
 pub enum Column {
     Nothing,
     Place(Span),

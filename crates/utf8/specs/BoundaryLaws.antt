@@ -1,6 +1,6 @@
 -- Laws of boundaries: in a well-formed text `insideOf` says exactly that a place is on none,
 -- and where a text is walked over by white space or by ASCII bytes, the walk ends on one.
-use Rattle.std.specs.Prelude.{ℕ, zero, suc, ◌+◌, ◌-◌, ◌<◌, ◌≤◌, ◌≡◌, refl, Bool, true, false, length, get_or, drop}
+use Rattle.std.specs.Prelude.{ℕ, zero, suc, ◌+◌, ◌-◌, ◌<◌, ◌≤◌, ◌≡◌, refl, Bool, true, false, Option, Some, None, length, get_or, drop}
 use Rattle.std.proofs.Math.Path.{sym}
 use Rattle.std.proofs.Common.{ap, subst, ◌∙◌, true≢false, arith, length-drop}
 use mathlib.Core.List.{List, [], ◌∷◌}
@@ -10,7 +10,7 @@ use Rattle.text.specs.TextLaws.{within_below, within_low, byte_in}
 use Rattle.text.specs.Walk.{reach, one}
 use Rattle.text.specs.WalkLaws.{reach_stop, reach_le, reach_keeps, turn_on, one_fits}
 use Rattle.utf8.specs.declared.Char.{Char}
-use Rattle.utf8.specs.Utf8.{front, char_width, first_ill, inside_of, white_of, white_width, past_white}
+use Rattle.utf8.specs.Utf8.{front, width_of, white_in, char_width, first_ill, inside_of, white_of, white_width, past_white}
 use Rattle.utf8.specs.Boundary.{Boundary, start, behind, WellFormed}
 use Rattle.utf8.specs.Laws.{more, Bytes, front_at, decoded_ascii, front_ascii, decoded_bytes, char_width_fits, white_width_fits}
 
@@ -42,7 +42,7 @@ char_inside s from at h k = go (char_bytes s from (omega arith)) (at - from) (om
 -- an ASCII byte is a character
 pub char_ascii : (s : List ℕ) (at : ℕ) → at < length s → get_or s at 0 ≤ 0x7F → char_width (drop at s) ≡ 1
 unfolding char_width
-char_ascii s at h k = ap (λ (c : Char). c.width) (front_ascii s at h k)
+char_ascii s at h k = ap width_of (front_ascii s at h k)
 
 pub boundary_le : {s : List ℕ} {at : ℕ} → Boundary s at → at ≤ length s
 boundary_le start = omega arith
@@ -160,9 +160,11 @@ chars_boundary f same fits {s} {at} b = reach_keeps f fits s (Boundary s) step a
 -- white space, and a run of ASCII bytes
 white_char : (t : List ℕ) → 0 < white_width t → white_width t ≡ char_width t
 unfolding white_width char_width
-white_char t =
-    by_cond (λ (n : ℕ). 0 < n → n ≡ (front t).width) (white_of (front t).code) (front t).width 0 (λ q h. refl)
-    (λ q h. absurd (omega arith))
+white_char t = go (front t)
+  where
+    go : (o : Option Char) → 0 < white_in o → white_in o ≡ width_of o
+    go None = λ h. refl
+    go (Some c) = by_cond (λ (n : ℕ). 0 < n → n ≡ c.width) (white_of c.code) c.width 0 (λ q h. refl) (λ q h. absurd (omega arith))
 
 pub white_boundary : {s : List ℕ} {at : ℕ} → Boundary s at → Boundary s (past_white s at)
 unfolding past_white
@@ -178,7 +180,7 @@ module _ (p : ℕ → Bool) (low : (b : ℕ) → p b ≡ true → b ≤ 0x7F) wh
   one_char [] = λ h. absurd (omega arith)
   one_char (a ∷ t) =
       by_cond (λ (n : ℕ). 0 < n → n ≡ char_width (a ∷ t)) (p a) 1 0
-      (λ q h. sym (ap (λ (c : Char). c.width) (decoded_ascii a _ _ _ (low a q)))) (λ q h. absurd (omega arith))
+      (λ q h. sym (ap width_of (decoded_ascii a _ _ _ (low a q)))) (λ q h. absurd (omega arith))
 
   pub run_boundary : {s : List ℕ} {at : ℕ} → Boundary s at → Boundary s (reach (one p) s at)
   run_boundary b = chars_boundary (one p) one_char (one_fits p) b

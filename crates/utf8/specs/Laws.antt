@@ -1,6 +1,7 @@
 -- Laws of the definitions: the character at a place, how wide it is, which bytes it has, and white space.
-use Rattle.std.specs.Prelude.{ℕ, suc, ◌+◌, ◌*◌, ◌%◌, ◌<◌, ◌≤◌, ◌≡◌, refl, Bool, true, false, cond, ◌&&◌, List, [], ◌∷◌, ◌⊎◌, leb, eqb, length, get_or, drop}
+use Rattle.std.specs.Prelude.{ℕ, suc, ◌+◌, ◌*◌, ◌%◌, ◌<◌, ◌≤◌, ◌≡◌, refl, Bool, true, false, cond, ◌&&◌, List, [], ◌∷◌, Option, Some, None, ◌⊎◌, leb, eqb, length, get_or, drop}
 use Rattle.std.proofs.Common.{sym, ap, ◌∙◌, inl, inr, arith, le-leb, ne_eqb, leb-true, drop_of_length-le, drop-cons, get_or-drop}
+use Rattle.std.specs.Option.{MatchOption}
 use Rattle.std.proofs.Math.Bool.{or-true}
 use Rattle.std.proofs.lemmas.Bool.{false≢true}
 use Rattle.std.proofs.Math.Decide.{dec_lt}
@@ -11,10 +12,10 @@ use Rattle.text.specs.TextLaws.{within_in, within_below, within_above, within_lo
 use Rattle.text.specs.Every.{all_of}
 use Rattle.text.specs.Walk.{over, reach}
 use Rattle.utf8.specs.declared.Char.{Char}
-use Rattle.utf8.specs.Utf8.{ascii_byte, lowest, highest, two, three, four, decoded, front, char_width, first_ill, white_of, white_width}
+use Rattle.utf8.specs.Utf8.{ascii_byte, width_of, white_in, lowest, highest, two, three, four, decoded, front, char_width, first_ill, white_of, white_width}
 
 -- past its end a text has no character, and inside it the character is that of the bytes there
-pub front_end : (s : List ℕ) (at : ℕ) → length s ≤ at → front (drop at s) ≡ record { code = 0; width = 0 }
+pub front_end : (s : List ℕ) (at : ℕ) → length s ≤ at → front (drop at s) ≡ None
 unfolding front
 front_end s at h = simp (drop_of_length-le s h)
 
@@ -27,12 +28,12 @@ front_at s at h =
     rw (drop-cons s at 0 h) (simp b)
 
 -- an ASCII byte is a character of its own
-pub decoded_ascii : (a b c d : ℕ) → a ≤ 0x7F → decoded a b c d ≡ record { code = a; width = 1 }
+pub decoded_ascii : (a b c d : ℕ) → a ≤ 0x7F → decoded a b c d ≡ Some (record { code = a; width = 1 })
 unfolding decoded
 decoded_ascii a b c d h = simp (le-leb a 0x7F h)
 
 pub front_ascii : (s : List ℕ) (at : ℕ) → at < length s → get_or s at 0 ≤ 0x7F
-    → front (drop at s) ≡ record { code = get_or s at 0; width = 1 }
+    → front (drop at s) ≡ Some (record { code = get_or s at 0; width = 1 })
 front_ascii s at h k = front_at s at h ∙ decoded_ascii _ _ _ _ k
 
 -- does the byte continue a character
@@ -64,16 +65,16 @@ second_more a b e =
     high false true h = omega arith
     high false false h = omega arith
 
-pub decoded_bytes : (a b c d : ℕ) → Bytes a b c d (decoded a b c d).width
+pub decoded_bytes : (a b c d : ℕ) → Bytes a b c d (width_of (decoded a b c d))
 unfolding decoded two three four
 decoded_bytes a b c d = go (leb a 0x7F) (two a b) (three a b c) (four a b c d) refl refl refl refl
   where
     go : (p q r t : Bool) → leb a 0x7F ≡ p → two a b ≡ q → three a b c ≡ r → four a b c d ≡ t
         → Bytes a b c d
-        (cond {A = Char} p (record { code = a; width = 1 }) (cond q (record { code = a % 32 * 64 + b % 64; width = 2 })
-        (cond r (record { code = a % 16 * 4096 + b % 64 * 64 + c % 64; width = 3 })
-        (cond t (record { code = a % 8 * 262144 + b % 64 * 4096 + c % 64 * 64 + d % 64; width = 4 })
-        (record { code = 0; width = 0 }))))).width
+        (width_of (cond p (Some (record { code = a; width = 1 })) (cond q (Some (record { code = a % 32 * 64 + b % 64; width = 2 }))
+        (cond r (Some (record { code = a % 16 * 4096 + b % 64 * 64 + c % 64; width = 3 }))
+        (cond t (Some (record { code = a % 8 * 262144 + b % 64 * 4096 + c % 64 * 64 + d % 64; width = 4 }))
+        None)))))
     go true q r t e f g h =
         record {
           first = λ i. within_below 0x80 0xBF a (omega (arith, leb-true a 0x7F e));
@@ -127,43 +128,55 @@ unfolding char_width front within
 char_width_fits [] = omega arith
 char_width_fits (a ∷ []) =
     let r = decoded_bytes a 0 0 0 in
-    let n : 2 ≤ (decoded a 0 0 0).width → ⊥ = λ h. false≢true (r.second h) in
+    let n : 2 ≤ width_of (decoded a 0 0 0) → ⊥ = λ h. false≢true (r.second h) in
     omega arith
 char_width_fits (a ∷ b ∷ []) =
     let r = decoded_bytes a b 0 0 in
-    let n : 3 ≤ (decoded a b 0 0).width → ⊥ = λ h. false≢true (r.third h) in
+    let n : 3 ≤ width_of (decoded a b 0 0) → ⊥ = λ h. false≢true (r.third h) in
     omega arith
 char_width_fits (a ∷ b ∷ c ∷ []) =
     let r = decoded_bytes a b c 0 in
-    let n : 4 ≤ (decoded a b c 0).width → ⊥ = λ h. false≢true (r.fourth h) in
+    let n : 4 ≤ width_of (decoded a b c 0) → ⊥ = λ h. false≢true (r.fourth h) in
     omega arith
 char_width_fits (a ∷ b ∷ c ∷ d ∷ s) = omega (arith, (decoded_bytes a b c d).most)
 
 pub white_width_fits : (t : List ℕ) → white_width t ≤ length t
 unfolding white_width char_width
-white_width_fits t =
-    by_cond (λ (n : ℕ). n ≤ length t) (white_of (front t).code) (front t).width 0 (λ e. char_width_fits t) (λ e. omega arith)
+white_width_fits t = go (front t) (char_width_fits t)
+  where
+    go : (o : Option Char) → width_of o ≤ length t → white_in o ≤ length t
+    go None h = h
+    go (Some c) h = by_cond (λ (n : ℕ). n ≤ length t) (white_of c.code) c.width 0 (λ e. h) (λ e. omega arith)
 
 -- how wide the white space is where the character is known
-pub white_is : (c : Char) (t : List ℕ) → c ≡ front t → white_of c.code ≡ true → c.width ≡ white_width t
+pub white_is : (c : Char) (t : List ℕ) → front t ≡ Some c → white_of c.code ≡ true → c.width ≡ white_width t
 unfolding white_width
-white_is c t e w = rw (← e) (sym (cond_true (white_of c.code) c.width 0 w))
+white_is c t e w = rw e (sym (cond_true (white_of c.code) c.width 0 w))
 
-pub white_not : (c : Char) (t : List ℕ) → c ≡ front t → white_of c.code ≡ false → 0 ≡ white_width t
+pub white_not : (c : Char) (t : List ℕ) → front t ≡ Some c → white_of c.code ≡ false → 0 ≡ white_width t
 unfolding white_width
-white_not c t e w = rw (← e) (sym (cond_false (white_of c.code) c.width 0 w))
+white_not c t e w = rw e (sym (cond_false (white_of c.code) c.width 0 w))
+
+pub white_none : (t : List ℕ) → front t ≡ None → 0 ≡ white_width t
+unfolding white_width
+white_none t e = rw e
+
+-- the width of the character that was found, 0 where there is none
+pub width_said : {P : Char → Type 0} (w f : Option Char) (z : ℕ) → w ≡ f → ((x : Char) → P x → z ≡ x.width) → MatchOption w (z ≡ 0) P → z ≡ width_of f
+width_said (Some x) f z e said q = said x q ∙ ap width_of e
+width_said None f z e said q = q ∙ ap width_of e
 
 -- how wide an ASCII byte is, as a character and as white space
 pub ascii_width : (s : List ℕ) (at : ℕ) → at < length s → get_or s at 0 ≤ 0x7F → 1 ≡ char_width (drop at s)
 unfolding char_width
-ascii_width s at h k = sym (ap (λ (c : Char). c.width) (front_ascii s at h k))
+ascii_width s at h k = sym (ap width_of (front_ascii s at h k))
 
 pub ascii_white : (s : List ℕ) (at : ℕ) → get_or s at 0 ≤ 0x7F → cond (white_of (get_or s at 0)) 1 0 ≡ white_width (drop at s)
 unfolding white_width white_of within
 ascii_white s at k = go (dec_lt at (length s))
   where
-    go : Dec (at < length s) → cond (white_of (get_or s at 0)) 1 0 ≡ cond (white_of (front (drop at s)).code) (front (drop at s)).width 0
-    go (yes h) = sym (ap (λ (c : Char). cond (white_of c.code) c.width 0) (front_ascii s at h k))
+    go : Dec (at < length s) → cond (white_of (get_or s at 0)) 1 0 ≡ white_in (front (drop at s))
+    go (yes h) = sym (ap white_in (front_ascii s at h k))
     go (no h) =
         let k : length s ≤ at = omega arith in
         rw (front_end s at k, get_or-eq_default s 0 k)
@@ -213,7 +226,7 @@ unfolding all_of over char_width front
 ascii_over [] e = refl
 ascii_over (a ∷ s) e =
     let w = both (ascii_byte a) (all_of ascii_byte s) e in
-    let d : char_width (a ∷ s) ≡ 1 = ap (λ (c : Char). c.width) (decoded_ascii a _ _ _ (leb-true a 0x7F w.0)) in
+    let d : char_width (a ∷ s) ≡ 1 = ap width_of (decoded_ascii a _ _ _ (leb-true a 0x7F w.0)) in
     simp d (ap suc (ascii_over s w.1))
 
 pub ascii_well : (s : List ℕ) → all_of ascii_byte s ≡ true → first_ill s ≡ length s

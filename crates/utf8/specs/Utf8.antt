@@ -1,7 +1,7 @@
 -- Well-formed UTF-8 by Unicode's table 3-7, the character at a place, and white space.
 -- Document 01: "well-formed UTF-8"; refusal 1, "p, where the first ill-formed sequence starts"; "White space is skipped first:
 -- U+0009 to 000D, 0020, 0085, 00A0, 1680, 2000 to 200A, 2028, 2029, 202F, 205F, 3000"; refusal 20, "inside a character".
-use Rattle.std.specs.Prelude.{ℕ, ◌+◌, ◌*◌, ◌%◌, Bool, cond, ◌&&◌, ◌||◌, List, [], ◌∷◌, get_or, leb, eqb}
+use Rattle.std.specs.Prelude.{ℕ, ◌+◌, ◌*◌, ◌%◌, Bool, cond, ◌&&◌, ◌||◌, List, [], ◌∷◌, Option, Some, None, get_or, leb, eqb}
 use Rattle.text.specs.Text.{within}
 use Rattle.text.specs.Walk.{reach}
 use Rattle.utf8.specs.declared.Char.{Char}
@@ -26,23 +26,28 @@ three a b c = within 0xE0 0xEF a && within (lowest a) (highest a) b && within 0x
 unfoldable pub four : ℕ → ℕ → ℕ → ℕ → Bool
 four a b c d = within 0xF0 0xF4 a && within (lowest a) (highest a) b && within 0x80 0xBF c && within 0x80 0xBF d
 
--- the character that the bytes a b c d begin with: its code point and its width, which is 0 where they begin ill-formed
-unfoldable pub decoded : ℕ → ℕ → ℕ → ℕ → Char
+-- the character that the bytes a b c d begin with: its code point and its width, or none where they begin ill-formed
+unfoldable pub decoded : ℕ → ℕ → ℕ → ℕ → Option Char
 decoded a b c d =
-    cond (leb a 0x7F) (record { code = a; width = 1 })
-    (cond (two a b) (record { code = a % 32 * 64 + b % 64; width = 2 })
-    (cond (three a b c) (record { code = a % 16 * 4096 + b % 64 * 64 + c % 64; width = 3 })
-    (cond (four a b c d) (record { code = a % 8 * 262144 + b % 64 * 4096 + c % 64 * 64 + d % 64; width = 4 })
-    (record { code = 0; width = 0 }))))
+    cond (leb a 0x7F) (Some (record { code = a; width = 1 }))
+    (cond (two a b) (Some (record { code = a % 32 * 64 + b % 64; width = 2 }))
+    (cond (three a b c) (Some (record { code = a % 16 * 4096 + b % 64 * 64 + c % 64; width = 3 }))
+    (cond (four a b c d) (Some (record { code = a % 8 * 262144 + b % 64 * 4096 + c % 64 * 64 + d % 64; width = 4 }))
+    None)))
 
 -- the character at the front of a text: past its end stands 0, which continues no character
-unfoldable pub front : List ℕ → Char
-front [] = record { code = 0; width = 0 }
+unfoldable pub front : List ℕ → Option Char
+front [] = None
 front (a ∷ s) = decoded a (get_or s 0 0) (get_or s 1 0) (get_or s 2 0)
+
+-- how wide a character is, 0 where there is none
+abbrev pub width_of : Option Char → ℕ
+width_of None = 0
+width_of (Some c) = c.width
 
 -- how wide the character at the front is, 0 where the text is at its end or ill-formed there
 unfoldable pub char_width : List ℕ → ℕ
-char_width t = (front t).width
+char_width t = width_of (front t)
 
 -- where the first ill-formed sequence starts, or the length where there is none
 unfoldable pub first_ill : List ℕ → ℕ
@@ -58,9 +63,14 @@ white_of c =
     within 0x9 0xD c || eqb c 0x20 || eqb c 0x85 || eqb c 0xA0 || eqb c 0x1680 || within 0x2000 0x200A c
     || within 0x2028 0x2029 c || eqb c 0x202F || eqb c 0x205F || eqb c 0x3000
 
+-- how wide a character is as white space, 0 where it is none
+abbrev pub white_in : Option Char → ℕ
+white_in None = 0
+white_in (Some c) = cond (white_of c.code) c.width 0
+
 -- how wide the white space character at the front is, 0 where there is none
 unfoldable pub white_width : List ℕ → ℕ
-white_width t = cond (white_of (front t).code) (front t).width 0
+white_width t = white_in (front t)
 
 -- the place after the white space at a place
 unfoldable pub past_white : List ℕ → ℕ → ℕ

@@ -1,5 +1,5 @@
 -- Worked characters: the edges of Unicode's table 3-7 from both sides, and white space, which is exactly 25 code points.
-use Rattle.std.specs.Prelude.{ℕ, zero, suc, ◌+◌, ◌<◌, ◌≤◌, ◌≡◌, refl, Bool, true, false, not, ◌||◌, List, [], ◌∷◌, ◌++◌, map, eqb, length}
+use Rattle.std.specs.Prelude.{ℕ, zero, suc, ◌+◌, ◌<◌, ◌≤◌, ◌≡◌, refl, Bool, true, false, not, ◌||◌, List, [], ◌∷◌, ◌++◌, Option, Some, None, map, eqb, length}
 use Rattle.std.proofs.Common.{ap, ◌∙◌, arith, eq-eqb, ne_eqb, le-leb}
 use Rattle.std.proofs.Math.Bool.{or_assoc, or-false}
 use Rattle.std.proofs.Math.Decide.{dec_lt}
@@ -8,6 +8,7 @@ use Rattle.text.specs.Text.{ascii, within}
 use Rattle.text.specs.TextLaws.{within_below, within_above}
 use Rattle.text.specs.Walk.{over, reach}
 use Rattle.text.specs.Every.{all_of}
+use Rattle.utf8.specs.declared.Char.{Char}
 use Rattle.utf8.specs.Utf8.{lowest, highest, two, three, four, decoded, front, char_width, first_ill, inside_of, white_of, white_width, past_white}
 
 -- which character do these bytes begin with; where are they ill-formed first; is this place of them inside a character;
@@ -27,8 +28,12 @@ data Answer : Type 0 where
 none : Answer
 none = is 0 0
 
+shown : Option Char → Answer
+shown None = none
+shown (Some c) = is c.code c.width
+
 answer : Question → Answer
-answer (char s) = is (front s).code (front s).width
+answer (char s) = shown (front s)
 answer (ill s) = place (first_ill s)
 answer (inside s at) = truth (inside_of s at)
 answer (past s at) = place (past_white s at)
@@ -83,7 +88,7 @@ table =
     ∷ []
 
 worked : map (λ w. answer w.0) table ≡ map (λ w. w.1) table
-unfolding table answer none within over reach lowest highest two three four decoded front char_width first_ill inside_of white_of white_width past_white
+unfolding table answer shown none within over reach lowest highest two three four decoded front char_width first_ill inside_of white_of white_width past_white
 worked = refl
 
 -- the code points of white space, and neighbours of them that are none

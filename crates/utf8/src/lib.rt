@@ -4,8 +4,11 @@
 ghost use Rattle.std.specs.Prelude.{◌≡◌, cond, drop};
 ghost use Rattle.text.specs.Every.{all_of};
 ghost use Rattle.utf8.specs.Utf8.{ascii_byte, lowest, highest, two, three, four, decoded, front, char_width, first_ill, inside_of, white_of, white_width, past_white};
+ghost use Rattle.utf8.specs.Laws.{char_width_fits, white_width_fits};
 
-// A character: its code point and how many bytes it takes, 0 where it is ill-formed.
+use text::Step;
+
+// A character: its code point and how many bytes it takes.
 #[derive(Clone, Copy)]
 pub struct Char {
     pub code: u32,
@@ -13,26 +16,28 @@ pub struct Char {
 }
 
 // Is a code point white space? All 25 of Unicode's.
+#[tactic(auto, using(std::proofs::lemmas::Bool::Decides::nat_tests), unfolding(crate::specs::Utf8::white_of, text::specs::Text::within))]
 pub fn is_white(code: u32) -> bool
     ensures { result ≡ white_of code }
 {
-    match code {
+    matches!(
+        code,
         0x9..=0xD
-        | 0x20
-        | 0x85
-        | 0xA0
-        | 0x1680
-        | 0x2000..=0x200A
-        | 0x2028
-        | 0x2029
-        | 0x202F
-        | 0x205F
-        | 0x3000 => true,
-        _ => false,
-    }
+            | 0x20
+            | 0x85
+            | 0xA0
+            | 0x1680
+            | 0x2000..=0x200A
+            | 0x2028
+            | 0x2029
+            | 0x202F
+            | 0x205F
+            | 0x3000
+    )
 }
 
 // The least second byte after a first byte: no overlong form.
+#[tactic(auto, unfolding(crate::specs::Utf8::lowest))]
 fn least(a: u8) -> u8
     ensures { result ≡ lowest a }
 {
@@ -44,6 +49,7 @@ fn least(a: u8) -> u8
 }
 
 // The greatest second byte after a first byte: no surrogate, nothing above 10FFFF.
+#[tactic(auto, unfolding(crate::specs::Utf8::highest))]
 fn greatest(a: u8) -> u8
     ensures { result ≡ highest a }
 {
@@ -54,12 +60,14 @@ fn greatest(a: u8) -> u8
     }
 }
 
+#[tactic(auto, unfolding(crate::specs::Utf8::two))]
 fn is_two(a: u8, b: u8) -> bool
     ensures { result ≡ two a b }
 {
     text::between(0xC2, 0xDF, a) & text::between(0x80, 0xBF, b)
 }
 
+#[tactic(auto, unfolding(crate::specs::Utf8::three))]
 fn is_three(a: u8, b: u8, c: u8) -> bool
     ensures { result ≡ three a b c }
 {
@@ -68,6 +76,7 @@ fn is_three(a: u8, b: u8, c: u8) -> bool
         & text::between(0x80, 0xBF, c)
 }
 
+#[tactic(auto, unfolding(crate::specs::Utf8::four))]
 fn is_four(a: u8, b: u8, c: u8, d: u8) -> bool
     ensures { result ≡ four a b c d }
 {
@@ -77,54 +86,52 @@ fn is_four(a: u8, b: u8, c: u8, d: u8) -> bool
         & text::between(0x80, 0xBF, d)
 }
 
-// The character that four bytes begin with.
-fn decode(a: u8, b: u8, c: u8, d: u8) -> Char
+// The character that four bytes begin with, or none where they begin ill-formed.
+#[tactic(auto, using(std::proofs::lemmas::Bool::Decides::nat_tests), unfolding(crate::specs::Utf8::decoded))]
+fn decode(a: u8, b: u8, c: u8, d: u8) -> Option<Char>
     ensures { result ≡ decoded a b c d }
 {
     if a <= 0x7F {
-        return Char {
+        return Some(Char {
             code: a as u32,
             width: 1,
-        };
+        });
     }
     if is_two(a, b) {
-        return Char {
+        return Some(Char {
             code: (a % 32) as u32 * 64 + (b % 64) as u32,
             width: 2,
-        };
+        });
     }
     if is_three(a, b, c) {
-        return Char {
+        return Some(Char {
             code: (a % 16) as u32 * 4096 + (b % 64) as u32 * 64 + (c % 64) as u32,
             width: 3,
-        };
+        });
     }
     if is_four(a, b, c, d) {
-        return Char {
+        return Some(Char {
             code: (a % 8) as u32 * 262144
                 + (b % 64) as u32 * 4096
                 + (c % 64) as u32 * 64
                 + (d % 64) as u32,
             width: 4,
-        };
+        });
     }
-    Char { code: 0, width: 0 }
+    None
 }
 
-// The character at a place: width 0 past the end and where the bytes there are ill-formed.
+// The character at a place: none past the end and where the bytes there are ill-formed.
 // An ASCII byte is looked at first: nearly every text is nothing else.
-pub fn char_at(s: &[u8], at: usize) -> Char
+pub fn char_at(s: &[u8], at: usize) -> Option<Char>
     ensures { result ≡ front (drop at s.now) }
 {
-    if s.len() <= at {
-        return Char { code: 0, width: 0 };
-    }
-    let a = s[at];
+    let a = *s.get(at)?;
     if a <= 0x7F {
-        return Char {
+        return Some(Char {
             code: a as u32,
             width: 1,
-        };
+        });
     }
     decode(
         a,
@@ -134,16 +141,21 @@ pub fn char_at(s: &[u8], at: usize) -> Char
     )
 }
 
-// Nearly all of a text is ASCII, so such a byte is looked at by itself.
-fn char_width(s: &[u8], at: usize) -> usize
-    ensures { result ≡ char_width (drop at s.now) }
-{
-    if at < s.len() {
-        if s[at] <= 0x7F {
+// A walk over the characters of a text.
+struct Chars;
+
+impl Step for Chars {
+    ghost width = { char_width };
+
+    // Nearly all of a text is ASCII, so such a byte is looked at by itself.
+    fn width_at(s: &[u8], at: usize) -> usize {
+        if at < s.len() && s[at] <= 0x7F {
             return 1;
         }
+        char_at(s, at).map_or(0, |c| c.width)
     }
-    char_at(s, at).width
+
+    ghost fits = { char_width_fits };
 }
 
 // Is every byte ASCII? No branch in the loop, so that it is done many bytes at a time.
@@ -151,35 +163,25 @@ fn is_ascii(s: &[u8]) -> bool
     ensures { result ≡ all_of ascii_byte s.now }
 {
     let mut ok = true;
-    let mut i = 0;
-    while i < s.len() {
-        ok = ok & (s[i] <= 0x7F);
-        i += 1;
+    for b in s {
+        ok = ok & (*b <= 0x7F);
     }
     ok
-}
-
-fn walk_chars(s: &[u8]) -> usize
-    ensures { result ≡ first_ill s.now }
-{
-    let mut at = 0;
-    loop {
-        let w = char_width(s, at);
-        if w == 0 {
-            return at;
-        }
-        at += w;
-    }
 }
 
 // Where the first ill-formed sequence starts, or the length where there is none.
 pub fn first_ill(s: &[u8]) -> usize
     ensures { result ≡ first_ill s.now }
 {
-    if is_ascii(s) { s.len() } else { walk_chars(s) }
+    if is_ascii(s) {
+        s.len()
+    } else {
+        text::walk::<Chars>(s, 0)
+    }
 }
 
 // Is a place of a well-formed text inside a character?
+#[tactic(auto, unfolding(crate::specs::Utf8::inside_of))]
 pub fn inside(s: &[u8], at: usize) -> bool
     ensures { result ≡ inside_of s.now at }
 {
@@ -190,31 +192,34 @@ pub fn inside(s: &[u8], at: usize) -> bool
 fn ascii_white(b: u8) -> usize
     ensures { result ≡ cond (white_of b) 1 0 }
 {
-    if is_white(b as u32) { 1 } else { 0 }
+    usize::from(is_white(b as u32))
 }
 
-// An ASCII byte is looked at by itself; past the end stands 0, which is no white space.
-fn white_width(s: &[u8], at: usize) -> usize
-    ensures { result ≡ white_width (drop at s.now) }
-{
-    let b = text::byte(s, at);
-    if b <= 0x7F {
-        return ascii_white(b);
+// A walk over the white space of a text.
+struct White;
+
+impl Step for White {
+    ghost width = { white_width };
+
+    // An ASCII byte is looked at by itself; past the end stands 0, which is no white space.
+    fn width_at(s: &[u8], at: usize) -> usize {
+        let b = text::byte(s, at);
+        if b <= 0x7F {
+            return ascii_white(b);
+        }
+        match char_at(s, at) {
+            Some(c) if is_white(c.code) => c.width,
+            _ => 0,
+        }
     }
-    let c = char_at(s, at);
-    if is_white(c.code) { c.width } else { 0 }
+
+    ghost fits = { white_width_fits };
 }
 
 // The place after the white space at a place.
+#[tactic(auto, unfolding(crate::specs::Utf8::past_white))]
 pub fn past_white(s: &[u8], from: usize) -> usize
     ensures { result ≡ past_white s.now from }
 {
-    let mut at = from;
-    loop {
-        let w = white_width(s, at);
-        if w == 0 {
-            return at;
-        }
-        at += w;
-    }
+    text::walk::<White>(s, from)
 }
