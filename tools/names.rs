@@ -125,12 +125,12 @@ fn table_rt(names: &Names, rows: &[Row]) -> String {
     out += &format!("pub const LICENCES: usize = {licences};\n\n");
     out += &format!("pub const EXCEPTIONS: usize = {};\n\n", licences + names.exceptions.len());
     out += &format!("pub const NAMES: usize = {};\n\n", rows.len());
-    out += &format!("const TABLE: [u64; {}] = [\n", words.len());
+    out += &format!("static TABLE: [u64; {}] = [\n", words.len());
     for w in &words {
         out += &format!("    0x{w:016X},\n");
     }
-    out += "];\n\n// The table, made once for each public call and lent downwards.\n";
-    out += &format!("pub fn table() -> [u64; {}]\n    ensures {{ result ≡ words }}\n{{\n    TABLE\n}}\n", words.len());
+    out += "];\n\n// The table: it lies in the program once, and is read where it lies.\n";
+    out += &format!("pub fn table() -> &'static [u64; {}]\n    ensures {{ result.now ≡ words }}\n{{\n    &TABLE\n}}\n", words.len());
     out
 }
 

@@ -1,8 +1,8 @@
 -- Laws of the layout: what stands where in the table, and that the names there are the listed ones.
-use Rattle.std.specs.Prelude.{ℕ, zero, suc, ◌+◌, ◌*◌, ◌-◌, ◌/◌, ◌%◌, ◌^◌, ◌≤◌, ◌<◌, ◌≡◌, refl, Bool, true, false, ◌&&◌, eqb, ltb, take, drop}
+use Rattle.std.specs.Prelude.{ℕ, zero, suc, ◌+◌, ◌*◌, ◌-◌, ◌/◌, ◌%◌, ◌^◌, ◌≤◌, ◌<◌, ◌≡◌, refl, Bool, true, false, ◌&&◌, eqb, ltb, take, drop, Option, Some, None}
 use Prim.Native.String.{String}
 use Rattle.std.proofs.Math.Path.{sym, ap}
-use Rattle.std.proofs.Common.{◌∙◌, zero-add, add-zero, add_assoc, le_of_suc-le-suc, not-suc-le-zero, length-take, length-drop, pow-add, get_or-take, get_or-drop, drop-cons, take_at, drop_at, drop-drop, eqb-true, ltb-true, eq-eqb, ne_eqb}
+use Rattle.std.proofs.Common.{◌∙◌, zero-add, add-zero, add_assoc, div-one, le_of_suc-le-suc, not-suc-le-zero, length-take, length-drop, pow-add, get_or-take, get_or-drop, drop-cons, take_at, drop_at, drop-drop, eqb-true, ltb-true, lt-ltb, le-ltb, eq-eqb, ne_eqb}
 use mathlib.Core.List.{List, [], ◌∷◌, ◌++◌, map, map-append, append_assoc}
 use Rattle.std.proofs.Math.Nat.{zero-div, div-div-eq-div-mul, div-add-mod}
 use Rattle.std.proofs.Math.Decide.{dec_lt}
@@ -10,16 +10,16 @@ use native.Mathlib.Omega.{arith}
 use Rattle.std.proofs.Math.ListN.{length, get_or, length-append, get_or-append, get_or-map, get_or-eq_default}
 use Rattle.std.proofs.lemmas.List.{length-map}
 use Rattle.std.proofs.Math.Seq.{get_or-append-add, drop-nil}
+use Rattle.std.proofs.Math.Nat.{pow-succ'}
+use Rattle.std.specs.Int.{w64, byte_at as byte_of, bytes_low_first, to_le_bytes}
 use Rattle.text.specs.Text.{ascii, same, ends}
 use Rattle.text.specs.Tests.{both, cond_false}
 use Rattle.text.specs.Every.{all_of, All, all_of_lem}
-use Rattle.names.specs.declared.Found.{Found}
-use Rattle.names.specs.declared.Found.TheVariants.{At, Nothing}
 use Rattle.names.specs.Listed.{listed, exceptions, imprecise, listed_count, exceptions_count, imprecise_count, table_bytes, table_words}
 use Rattle.names.specs.Lookup.{seek, lookup, licence_texts, imprecise_texts, licence_of, bytes_at, licence_name, exception_name, deprecated_of, gnu_of, is_later, is_bare, stem, later_of, only_of, stands_for}
 use Rattle.names.specs.Shape.{licence_texts_lem, imprecise_texts_lem}
-use Rattle.names.proofs.Partners.{later_partner, only_partner}
-use Rattle.names.specs.Layout.{Row, row, bit, distance, after_of, mark_of, marked, placed, stood_for, rows, directory, bodies, table_of, value, pack, words, texts, name_at, start_at, mark_at, part}
+use Rattle.names.proofs.Partners.{past, later_partner, only_partner}
+use Rattle.names.specs.Layout.{Row, row, bit, distance, after_of, mark_of, marked, placed, stood_for, rows, directory, bodies, table_of, value, pack, words, texts, name_at, start_at, mark_at, part, flag_of, partner_of}
 
 -- Bytes in words.
 
@@ -32,14 +32,25 @@ unfolding value
 value_rest b s h = omega arith
 
 -- the j-th byte of a number of bytes
-digit : (s : List ℕ) (j : ℕ) → All small s → value s / 2 ^ (8 * j) % 256 ≡ get_or s j 0
+digit : (s : List ℕ) (j : ℕ) → All small s → value s / 256 ^ j % 256 ≡ get_or s j 0
 unfolding value small
 digit [] j a = rw zero-div
 digit (b ∷ s) zero a = let h : b < 256 = ltb-true b 256 a.0 in omega arith
 digit (b ∷ s) (suc j) a =
     let h : b < 256 = ltb-true b 256 a.0 in
-    let e : 8 * suc j ≡ 8 + 8 * j = omega arith in
-    rw (e, pow-add 2 8 (8 * j), ← div-div-eq-div-mul (value (b ∷ s)) 256 (2 ^ (8 * j)), value_rest b s h) (digit s j a.1)
+    rw (pow-succ' 256 j, ← div-div-eq-div-mul (value (b ∷ s)) 256 (256 ^ j), value_rest b s h) (digit s j a.1)
+
+-- a number's byte i, as the library takes it
+worth : (i n : ℕ) → byte_of i n ≡ n / 256 ^ i % 256
+worth zero n = ap (λ (m : ℕ). m % 256) (sym (div-one n))
+worth (suc i) n = refl
+
+low_at : (i k n j : ℕ) → j < k → get_or (bytes_low_first i k n) j 0 ≡ n / 256 ^ (i + j) % 256
+low_at i zero n j h = absurd (not-suc-le-zero h)
+low_at i (suc k) n zero h = rw (add-zero i) (worth i n)
+low_at i (suc k) n (suc j) h =
+    let e : i + suc j ≡ suc i + j = omega arith in
+    rw e (low_at (suc i) k n j (le_of_suc-le-suc h))
 
 small_take : (n : ℕ) (s : List ℕ) → All small s → All small (take n s)
 small_take zero s a = tt
@@ -64,9 +75,11 @@ pack_at (suc n) s (suc i) h =
     let e : 8 * suc i ≡ 8 + 8 * i = omega arith in
     pack_at n (drop 8 s) i (le_of_suc-le-suc h) ∙ rw (e, drop-drop (8 * i) 8 s)
 
-packed : (n : ℕ) (s : List ℕ) (i : ℕ) → All small s → i < 8 * n → get_or (pack n s) (i / 8) 0 / 2 ^ (8 * (i % 8)) % 256 ≡ get_or s i 0
+packed : (n : ℕ) (s : List ℕ) (i : ℕ) → All small s → i < 8 * n → get_or (to_le_bytes w64 (get_or (pack n s) (i / 8) 0)) (i % 8) 0 ≡ get_or s i 0
 packed n s i a h =
-    rw (pack_at n s (i / 8) (omega arith))
+    let z : 0 + i % 8 ≡ i % 8 = omega arith in
+    low_at 0 8 (get_or (pack n s) (i / 8) 0) (i % 8) (omega arith)
+    ∙ rw (z, pack_at n s (i / 8) (omega arith))
     (digit (take 8 (drop (8 * (i / 8)) s)) (i % 8) (small_take 8 (drop (8 * (i / 8)) s) (small_drop (8 * (i / 8)) s a))
     ∙ get_or-take 8 (drop (8 * (i / 8)) s) (i % 8) 0 (omega arith)
     ∙ get_or-drop (8 * (i / 8)) s (i % 8) 0
@@ -93,7 +106,7 @@ unfolding words
 words_length = length_pack table_words (table_of rows)
 
 -- the byte i of the table is in its word
-pub cell_at : (i : ℕ) → i < table_bytes → get_or words (i / 8) 0 / 2 ^ (8 * (i % 8)) % 256 ≡ get_or (table_of rows) i 0
+pub cell_at : (i : ℕ) → i < table_bytes → get_or (to_le_bytes w64 (get_or words (i / 8) 0)) (i % 8) 0 ≡ get_or (table_of rows) i 0
 unfolding words
 cell_at i h = packed table_words (table_of rows) i table_small (omega arith)
 
@@ -387,13 +400,13 @@ imprecise_mark i h =
     ∙ ap (λ (j : ℕ). placed (stands_for j)) (zero-add i)
 
 -- the distance of a partner that stands within 15 places after k
-near_after : (k : ℕ) (f : Found) → ((j : ℕ) → f ≡ At j → (k < j) × (j < k + 16)) → (distance k f < 16) × (after_of k (distance k f) ≡ f)
+near_after : (k : ℕ) (f : Option ℕ) → ((j : ℕ) → f ≡ Some j → (k < j) × (j < k + 16)) → (distance k f < 16) × (after_of k (distance k f) ≡ f)
 unfolding distance after_of
-near_after k (At j) n =
+near_after k (Some j) n =
     let w = n j refl in
     let q : k + (j - k) ≡ j = omega arith in
-    (omega arith, cond_false (eqb (j - k) 0) Nothing (At (k + (j - k))) (ne_eqb (j - k) 0 (λ z. omega arith)) ∙ ap At q)
-near_after k Nothing n = (omega arith, refl)
+    (omega arith, cond_false (eqb (j - k) 0) None (Some (k + (j - k))) (ne_eqb (j - k) 0 (λ z. omega arith)) ∙ ap Some q)
+near_after k None n = (omega arith, refl)
 
 bit_test : (b : Bool) (n : ℕ) → n ≡ bit b → eqb n 1 ≡ b
 bit_test true n e = eq-eqb n 1 e
@@ -429,3 +442,52 @@ mark_says k h =
       later = ap (after_of k) x ∙ l.1;
       only = ap (after_of k) y ∙ o.1;
     }
+
+-- what the flags and partners in the mark of the licence k say
+pub record Says (k : ℕ) : Type 0 where
+  pub deprecated : flag_of k 1 ≡ deprecated_of k
+  pub gnu : flag_of k 2 ≡ gnu_of k
+  pub or_later : flag_of k 4 ≡ is_later k
+  pub later : partner_of k 8 ≡ later_of k
+  pub only : partner_of k 128 ≡ only_of k
+
+flag_in : (k flag : ℕ) → k < length listed → flag_of k flag ≡ eqb (mark_at k / flag % 2) 1
+unfolding flag_of
+flag_in k flag h = simp (lt-ltb k (length listed) h)
+
+flag_past : (k flag : ℕ) → length listed ≤ k → flag_of k flag ≡ false
+unfolding flag_of
+flag_past k flag h = simp (le-ltb k (length listed) h)
+
+partner_in : (k unit : ℕ) → k < length listed → partner_of k unit ≡ after_of k (mark_at k / unit % 16)
+unfolding partner_of
+partner_in k unit h = simp (lt-ltb k (length listed) h)
+
+partner_past : (k unit : ℕ) → length listed ≤ k → partner_of k unit ≡ None
+unfolding partner_of
+partner_past k unit h = simp (le-ltb k (length listed) h)
+
+pub says : (k : ℕ) → Says k
+says k = go (dec_lt k (length listed))
+  where
+    go : Dec (k < length listed) → Says k
+    go (yes h) =
+        let w = mark_says k h in
+        let one : mark_at k / 1 % 2 ≡ mark_at k % 2 = omega arith in
+        record {
+          deprecated = flag_in k 1 h ∙ ap (λ (m : ℕ). eqb m 1) one ∙ w.deprecated;
+          gnu = flag_in k 2 h ∙ w.gnu;
+          or_later = flag_in k 4 h ∙ w.or_later;
+          later = partner_in k 8 h ∙ w.later;
+          only = partner_in k 128 h ∙ w.only;
+        }
+    go (no h) =
+        let l : length listed ≤ k = omega arith in
+        let p = past k l in
+        record {
+          deprecated = flag_past k 1 l ∙ sym p.deprecated;
+          gnu = flag_past k 2 l ∙ sym p.gnu;
+          or_later = flag_past k 4 l ∙ sym p.later;
+          later = partner_past k 8 l ∙ sym p.no_later;
+          only = partner_past k 128 l ∙ sym p.no_only;
+        }

@@ -1,7 +1,7 @@
 -- The longest imprecise name that begins a text is the last one in the table that does: of two such names the longer extends the shorter.
-use Rattle.std.specs.Prelude.{◌≡◌, ◌⊎◌, Bool, true, false, ◌&&◌, List, [], ◌∷◌}
+use Rattle.std.specs.Prelude.{◌≡◌, ◌⊎◌, true, false, List, [], ◌∷◌, Option, None}
 use Rattle.std.proofs.Math.Path.{refl, ap}
-use Rattle.std.proofs.Common.{sym, ◌∙◌, inl, inr, eq-or-lt_of_le, add-suc, eq-eqb}
+use Rattle.std.proofs.Common.{sym, ◌∙◌, inl, inr, eq-or-lt_of_le, add-suc}
 use Rattle.std.proofs.Math.Bool.{true≢false}
 use Prim.Native.Nat.{ℕ, zero, suc, ◌+◌, ◌-◌, ◌≤◌, ◌<◌}
 use Rattle.std.proofs.Math.Decide.{dec_lt}
@@ -9,8 +9,6 @@ use native.Mathlib.Omega.{arith}
 use Rattle.std.proofs.Math.ListN.{length, take}
 use Rattle.text.specs.Text.{begins}
 use Rattle.text.specs.TextLaws.{begins_length, begins_take, begins_front}
-use Rattle.names.specs.declared.Found.{Found}
-use Rattle.names.specs.declared.Loose.TheVariants.{Miss}
 use Rattle.names.specs.Listed.{imprecise}
 use Rattle.names.specs.Lookup.{bytes_at, imprecise_texts, stands_for, stood, hit, longest, imprecise_of}
 use Rattle.names.specs.OrderLaws.{Below, shorter, rest, below_trans, below_irrefl}
@@ -33,15 +31,15 @@ module _ (t : List ℕ) where
   down : (m : ℕ) → ((k : ℕ) → k < length imprecise → bytes_at imprecise_texts k ≡ take (suc m) t → ⊥) → longest (suc m) t ≡ longest m t
   unfolding longest
   down m f =
-      ap (λ (r : Found). hit (suc m) r (longest m t))
+      ap (λ (r : Option ℕ). hit (suc m) r (longest m t))
       (absent imprecise_texts (take (suc m) t) (λ k h e. f k (omega (arith, imprecise_texts_lem)) e))
 
   -- where no imprecise name begins the text, none is found
-  pub longest_none : ((j : ℕ) → j < length imprecise → begins (bytes_at imprecise_texts j) t ≡ false) → imprecise_of t ≡ Miss
+  pub longest_none : ((j : ℕ) → j < length imprecise → begins (bytes_at imprecise_texts j) t ≡ false) → imprecise_of t ≡ None
   unfolding imprecise_of longest
   longest_none f = go (length t)
     where
-      go : (m : ℕ) → longest m t ≡ Miss
+      go : (m : ℕ) → longest m t ≡ None
       go zero = refl
       go (suc m) = down m (λ k h e. true≢false (sym (front_name k (suc m) e) ∙ f k h)) ∙ go m
 
@@ -75,7 +73,7 @@ module _ (t : List ℕ) where
     unfolding longest
     start zero e = absurd (omega (arith, (imprecise_proper i h).long))
     start (suc m) e =
-        ap (λ (r : Found). hit (suc m) r (longest m t))
+        ap (λ (r : Option ℕ). hit (suc m) r (longest m t))
         (found imprecise_texts (take (suc m) t) i imprecise_ascend (omega (arith, imprecise_texts_lem))
         (sym (begins_take (bytes_at imprecise_texts i) t b) ∙ ap (λ (l : ℕ). take l t) e))
 

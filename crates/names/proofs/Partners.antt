@@ -1,5 +1,5 @@
 -- The "-or-later" and "-only" names of GNU names: what a partner is, that it stands near, and that there is none past the list.
-use Rattle.std.specs.Prelude.{◌≡◌, refl, Bool, true, false, cond, not, ◌&&◌, List, ◌++◌, ℕ, ◌+◌, ◌-◌, ◌≤◌, ◌<◌, ltb, length, get_or}
+use Rattle.std.specs.Prelude.{◌≡◌, refl, Bool, true, false, cond, not, ◌&&◌, List, ◌++◌, ℕ, ◌+◌, ◌≤◌, ◌<◌, ltb, length, get_or, Option, Some, None}
 use Rattle.std.proofs.Common.{sym, ◌∙◌, ap, true≢false, arith, ltb-true}
 use Rattle.std.proofs.lemmas.Bool.{false≢true, not-true}
 use Rattle.std.proofs.Math.Decide.{dec_lt}
@@ -8,8 +8,6 @@ use Rattle.text.specs.Text.{ascii, same, ends}
 use Rattle.text.specs.TextLaws.{ends_append}
 use Rattle.text.specs.Every.{every, every_at}
 use Rattle.text.specs.Tests.{both, cond_true, cond_false}
-use Rattle.names.specs.declared.Found.{Found}
-use Rattle.names.specs.declared.Found.TheVariants.{At, Nothing}
 use Rattle.names.specs.Name.{Listed, plain}
 use Rattle.names.specs.Listed.{listed}
 use Rattle.names.specs.Lookup.{
@@ -35,8 +33,8 @@ pub record Past (k : ℕ) : Type 0 where
   pub gnu : gnu_of k ≡ false
   pub later : is_later k ≡ false
   pub bare : is_bare k ≡ false
-  pub no_later : later_of k ≡ Nothing
-  pub no_only : only_of k ≡ Nothing
+  pub no_later : later_of k ≡ None
+  pub no_only : only_of k ≡ None
 
 past_name : (k : ℕ) → length listed ≤ k → (deprecated_of k ≡ false) × (gnu_of k ≡ false)
 unfolding deprecated_of gnu_of
@@ -71,9 +69,9 @@ gnu_listed k e = go (dec_lt k (length listed))
     go (no h) = absurd (true≢false (sym e ∙ (past k (omega arith)).gnu))
 
 -- the test of a partner j of k, as it stands in the table
-good : ℕ → Found → Bool
-good k (At j) = ltb k j && (ltb j (k + 16) && (not (deprecated_of j) && (gnu_of j && not (is_bare j))))
-good k Nothing = true
+good : ℕ → Option ℕ → Bool
+good k (Some j) = ltb k j && (ltb j (k + 16) && (not (deprecated_of j) && (gnu_of j && not (is_bare j))))
+good k None = true
 
 later_test : every (λ k. good k (later_of k)) (length listed) ≡ true
 unfolding every good later_of gnu_of deprecated_of is_bare stem ends same licence_of lookup seek licence_name bytes_at licence_texts listed
@@ -94,7 +92,7 @@ pub record Partner (k j : ℕ) (n : List ℕ) : Type 0 where
   pub after : k < j
   pub near : j < k + 16
 
-partner : (k j : ℕ) (n : List ℕ) → gnu_of k ≡ true → licence_of n ≡ At j → good k (At j) ≡ true → Partner k j n
+partner : (k j : ℕ) (n : List ℕ) → gnu_of k ≡ true → licence_of n ≡ Some j → good k (Some j) ≡ true → Partner k j n
 unfolding good
 partner k j n g e t =
     let f = licence_listed n j e in
@@ -114,22 +112,22 @@ partner k j n g e t =
     }
 
 -- an answer that is asked for only where b holds
-asked : (b : Bool) (f : Found) (j : ℕ) → cond b f Nothing ≡ At j → (b ≡ true) × (f ≡ At j)
+asked : (b : Bool) (f : Option ℕ) (j : ℕ) → cond b f None ≡ Some j → (b ≡ true) × (f ≡ Some j)
 asked true f j e = (refl, e)
-asked false f j e = at_nothing Nothing j e refl
+asked false f j e = at_nothing None j e refl
 
 bare_gnu : (k : ℕ) → is_bare k ≡ true → gnu_of k ≡ true
 unfolding is_bare
 bare_gnu k e = (both (gnu_of k) _ e).0
 
-pub later_partner : (k j : ℕ) → later_of k ≡ At j → Partner k j (stem (licence_name k) ++ ascii "-or-later")
+pub later_partner : (k j : ℕ) → later_of k ≡ Some j → Partner k j (stem (licence_name k) ++ ascii "-or-later")
 unfolding later_of
 later_partner k j e =
     let a = asked (gnu_of k) (licence_of (stem (licence_name k) ++ ascii "-or-later")) j e in
     let t = every_at (λ k. good k (later_of k)) (length listed) k later_test (gnu_listed k a.0) in
     partner k j (stem (licence_name k) ++ ascii "-or-later") a.0 a.1 (ap (good k) (sym e) ∙ t)
 
-pub only_partner : (k j : ℕ) → only_of k ≡ At j → Partner k j (licence_name k ++ ascii "-only")
+pub only_partner : (k j : ℕ) → only_of k ≡ Some j → Partner k j (licence_name k ++ ascii "-only")
 unfolding only_of
 only_partner k j e =
     let a = asked (is_bare k) (licence_of (licence_name k ++ ascii "-only")) j e in
@@ -138,26 +136,26 @@ only_partner k j e =
     partner k j (licence_name k ++ ascii "-only") g a.1 (ap (good k) (sym e) ∙ t)
 
 -- only a bare name has an "-only" name
-pub only_bare : (k j : ℕ) → only_of k ≡ At j → is_bare k ≡ true
+pub only_bare : (k j : ℕ) → only_of k ≡ Some j → is_bare k ≡ true
 unfolding only_of
 only_bare k j e = (asked (is_bare k) (licence_of (licence_name k ++ ascii "-only")) j e).0
 
 -- a "-or-later" partner is an "-or-later" name
-pub later_later : (k j : ℕ) → later_of k ≡ At j → is_later j ≡ true
+pub later_later : (k j : ℕ) → later_of k ≡ Some j → is_later j ≡ true
 unfolding is_later
 later_later k j e =
     let p = later_partner k j e in
     rw (p.gnu, p.named) (ends_append (stem (licence_name k)) (ascii "-or-later"))
 
 -- today's table: a bare GNU name has its "-only" name, and a GNU name with no "-or-later" has its "-or-later" name
-some : Found → Bool
-some (At j) = true
-some Nothing = false
+some : Option ℕ → Bool
+some (Some j) = true
+some None = false
 
-some_is : (f : Found) → some f ≡ true → (j : ℕ) × (f ≡ At j)
+some_is : (f : Option ℕ) → some f ≡ true → (j : ℕ) × (f ≡ Some j)
 unfolding some
-some_is (At j) e = (j, refl)
-some_is Nothing e = absurd (false≢true e)
+some_is (Some j) e = (j, refl)
+some_is None e = absurd (false≢true e)
 
 then_so : (a b : Bool) → cond a b true ≡ true → a ≡ true → b ≡ true
 then_so true b e h = e
@@ -175,13 +173,13 @@ no_later_test : every (λ k. cond (is_later k) (not (some (later_of k))) true) (
 unfolding every some later_of gnu_of is_later stem ends same licence_of lookup seek licence_name bytes_at licence_texts listed
 no_later_test = refl
 
-pub bare_has_only : (k : ℕ) → is_bare k ≡ true → (j : ℕ) × (only_of k ≡ At j)
+pub bare_has_only : (k : ℕ) → is_bare k ≡ true → (j : ℕ) × (only_of k ≡ Some j)
 bare_has_only k e =
     some_is (only_of k)
     (then_so (is_bare k) (some (only_of k))
     (every_at (λ k. cond (is_bare k) (some (only_of k)) true) (length listed) k has_only_test (gnu_listed k (bare_gnu k e))) e)
 
-pub gnu_has_later : (k : ℕ) → gnu_of k ≡ true → is_later k ≡ false → (j : ℕ) × (later_of k ≡ At j)
+pub gnu_has_later : (k : ℕ) → gnu_of k ≡ true → is_later k ≡ false → (j : ℕ) × (later_of k ≡ Some j)
 gnu_has_later k g e =
     some_is (later_of k)
     (then_so (gnu_of k && not (is_later k)) (some (later_of k))
@@ -189,7 +187,7 @@ gnu_has_later k g e =
     (rw (g, e)))
 
 -- and an "-or-later" name has none
-pub later_has_none : (k : ℕ) → is_later k ≡ true → later_of k ≡ Nothing
+pub later_has_none : (k : ℕ) → is_later k ≡ true → later_of k ≡ None
 unfolding is_later some
 later_has_none k e =
     go (later_of k)
@@ -197,9 +195,9 @@ later_has_none k e =
     (then_so (is_later k) (not (some (later_of k)))
     (every_at (λ k. cond (is_later k) (not (some (later_of k))) true) (length listed) k no_later_test (gnu_listed k (both (gnu_of k) _ e).0)) e))
   where
-    go : (f : Found) → some f ≡ false → f ≡ Nothing
-    go (At j) q = absurd (true≢false q)
-    go Nothing q = refl
+    go : (f : Option ℕ) → some f ≡ false → f ≡ None
+    go (Some j) q = absurd (true≢false q)
+    go None q = refl
 
 -- today's table: the deprecated names are the bare GNU names
 bare_deprecated_test : every (λ k. cond (is_bare k) (deprecated_of k) (not (deprecated_of k))) (length listed) ≡ true
@@ -229,7 +227,7 @@ current_settled k e = go (is_bare k) refl
     go false q = refl
 
 -- a name with a suffix, and one that is no GNU name, is its own "-only" name
-pub settled_no_only : (k : ℕ) → is_bare k ≡ false → only_of k ≡ Nothing
+pub settled_no_only : (k : ℕ) → is_bare k ≡ false → only_of k ≡ None
 unfolding only_of
 settled_no_only k e = rw e
 
@@ -237,10 +235,10 @@ pub other_settled : (k : ℕ) → gnu_of k ≡ false → is_bare k ≡ false
 other_settled k g = past_bare k g
 
 -- what is written for a name alone: its "-only" name, or itself where it has a suffix or is no GNU name
-pub only_name : (k j : ℕ) → only_of k ≡ At j → licence_name j ≡ licence_name k ++ ascii "-only"
+pub only_name : (k j : ℕ) → only_of k ≡ Some j → licence_name j ≡ licence_name k ++ ascii "-only"
 only_name k j e = (only_partner k j e).named
 
-pub no_only_settled : (k : ℕ) → only_of k ≡ Nothing → is_bare k ≡ false
+pub no_only_settled : (k : ℕ) → only_of k ≡ None → is_bare k ≡ false
 no_only_settled k e = go (is_bare k) refl
   where
     go : (b : Bool) → is_bare k ≡ b → is_bare k ≡ false
@@ -252,7 +250,7 @@ whole_test : every (λ k. cond (gnu_of k && not (some (later_of k))) (not (ends 
 unfolding every some later_of gnu_of stem ends same licence_of lookup seek licence_name bytes_at licence_texts listed
 whole_test = refl
 
-pub no_later_whole : (k : ℕ) → gnu_of k ≡ true → later_of k ≡ Nothing → stem (licence_name k) ≡ licence_name k
+pub no_later_whole : (k : ℕ) → gnu_of k ≡ true → later_of k ≡ None → stem (licence_name k) ≡ licence_name k
 unfolding stem some
 no_later_whole k g e =
     let t = every_at (λ k. cond (gnu_of k && not (some (later_of k))) (not (ends (ascii "-only") (licence_name k))) true) (length listed) k whole_test (gnu_listed k g) in

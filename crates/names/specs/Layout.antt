@@ -1,13 +1,10 @@
 -- How the names lie in the one constant table. Nothing to believe: the contracts of the lookups speak of Lookup.antt alone.
 -- Document 01: "a directory of offsets, lengths and flags first, then the bodies".
-use Rattle.std.specs.Prelude.{ℕ, zero, suc, ◌+◌, ◌*◌, ◌-◌, ◌/◌, ◌%◌, Bool, cond, List, [], ◌∷◌, ◌++◌, map, eqb, length, get_or, take, drop}
+use Rattle.std.specs.Prelude.{ℕ, zero, suc, ◌+◌, ◌*◌, ◌-◌, ◌/◌, ◌%◌, Bool, cond, ◌&&◌, ltb, List, [], ◌∷◌, ◌++◌, map, eqb, length, get_or, take, drop, Option, Some, None}
 use Prim.Native.String.{String}
-use Rattle.text.specs.Text.{ascii, ends}
-use Rattle.names.specs.declared.Found.{Found}
-use Rattle.names.specs.declared.Found.TheVariants.{At, Nothing}
-use Rattle.names.specs.Name.{Listed, Imprecise}
-use Rattle.names.specs.Listed.{listed, exceptions, imprecise, table_words}
-use Rattle.names.specs.Lookup.{licence_of, deprecated_of, gnu_of, is_later, later_of, only_of, stands_for, licence_texts, imprecise_texts, bytes_at}
+use Rattle.text.specs.Text.{ascii}
+use Rattle.names.specs.Listed.{listed, exceptions, table_words}
+use Rattle.names.specs.Lookup.{deprecated_of, gnu_of, is_later, later_of, only_of, stands_for, licence_texts, imprecise_texts, bytes_at}
 
 -- a row of the table: a name and its mark
 pub record Row : Type 0 where
@@ -18,9 +15,9 @@ abbrev pub row : String → ℕ → Row
 row s m = record { text = s; mark = m }
 
 -- how many places after k a partner stands, 0 where there is none
-unfoldable pub distance : ℕ → Found → ℕ
-distance k (At j) = j - k
-distance k Nothing = 0
+unfoldable pub distance : ℕ → Option ℕ → ℕ
+distance k (Some j) = j - k
+distance k None = 0
 
 abbrev pub bit : Bool → ℕ
 bit b = cond b 1 0
@@ -34,9 +31,9 @@ unfoldable pub marked : ℕ → List String → List Row
 marked k [] = []
 marked k (n ∷ ns) = row n (mark_of k) ∷ marked (suc k) ns
 
-unfoldable pub placed : Found → ℕ
-placed (At k) = k
-placed Nothing = 0
+unfoldable pub placed : Option ℕ → ℕ
+placed (Some k) = k
+placed None = 0
 
 -- an imprecise name's mark is the place of the licence that it stands for
 unfoldable pub stood_for : ℕ → List String → List Row
@@ -91,5 +88,13 @@ unfoldable pub part : ℕ → ℕ → List Row
 part from to = take (to - from) (drop from rows)
 
 -- the place that is some places after k, if it is any
-unfoldable pub after_of : ℕ → ℕ → Found
-after_of k places = cond (eqb places 0) Nothing (At (k + places))
+unfoldable pub after_of : ℕ → ℕ → Option ℕ
+after_of k places = cond (eqb places 0) None (Some (k + places))
+
+-- has the licence k a flag in its mark; past the licences there is none
+unfoldable pub flag_of : ℕ → ℕ → Bool
+flag_of k flag = ltb k (length listed) && eqb (mark_at k / flag % 2) 1
+
+-- the partner of the licence k whose distance stands in its mark from a unit on
+unfoldable pub partner_of : ℕ → ℕ → Option ℕ
+partner_of k unit = cond (ltb k (length listed)) (after_of k (mark_at k / unit % 16)) None

@@ -2,16 +2,16 @@
 use Rattle.std.specs.Prelude.{◌≡◌, List, [], ◌∷◌, length}
 use Prim.Native.Nat.{ℕ, ◌<◌, compare, Ordering}
 use Prim.Native.String.{String}
-use Rattle.names.specs.declared.Order.{Order}
-use Rattle.names.specs.declared.Order.TheVariants.{Less, Equal, Greater}
+use Rattle.std.specs.declared.cmp.Ordering as Cmp
+use Rattle.std.specs.declared.cmp.Ordering.TheVariants.{Less, Equal, Greater}
 use Rattle.names.specs.Lookup.{bytes_at}
 
-abbrev pub onward : Ordering → Order → Order
+abbrev pub onward : Ordering → Cmp.Ordering → Cmp.Ordering
 onward Ordering.lt o = Less
 onward Ordering.eq o = o
 onward Ordering.gt o = Greater
 
-unfoldable pub order : List ℕ → List ℕ → Order
+unfoldable pub order : List ℕ → List ℕ → Cmp.Ordering
 order [] [] = Equal
 order [] (y ∷ ys) = Less
 order (x ∷ xs) [] = Greater

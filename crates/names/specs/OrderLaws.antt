@@ -17,8 +17,8 @@ use Rattle.std.proofs.Math.Dec.{is_le, compare_is_eq}
 use Rattle.std.proofs.Math.ListN.{drop_of_length-le}
 use Rattle.std.proofs.Math.Seq.{drop-cons}
 use Rattle.text.specs.Text.{ascii}
-use Rattle.names.specs.declared.Order.{Order}
-use Rattle.names.specs.declared.Order.TheVariants.{Less, Equal, Greater}
+use Rattle.std.specs.declared.cmp.Ordering as Cmp
+use Rattle.std.specs.declared.cmp.Ordering.TheVariants.{Less, Equal, Greater}
 use Rattle.names.specs.Order.{order, onward}
 
 clash : {A : Type 0} → ◌≡◌ {A = ℕ} 0 1 → A
@@ -109,12 +109,12 @@ below_flip (first {x = x} {y = y} {xs = xs} {ys = ys} h) = order_gt y x ys xs h
 below_flip (rest {x = x} {y = y} {xs = xs} {ys = ys} e h) = order_eq y x ys xs (sym e) ∙ below_flip h
 
 -- what the order's answer says
-pub data Stands (a b : List ℕ) : Order → Type 0 where
+pub data Stands (a b : List ℕ) : Cmp.Ordering → Type 0 where
   less : Below a b → Stands a b Less
   equal : a ≡ b → Stands a b Equal
   greater : Below b a → Stands a b Greater
 
-stands_on : {x y : ℕ} {xs ys : List ℕ} {o : Order} → x ≡ y → Stands xs ys o → Stands (x ∷ xs) (y ∷ ys) o
+stands_on : {x y : ℕ} {xs ys : List ℕ} {o : Cmp.Ordering} → x ≡ y → Stands xs ys o → Stands (x ∷ xs) (y ∷ ys) o
 stands_on e (less h) = less (rest e h)
 stands_on e (equal h) = equal (λ i. e i ∷ h i)
 stands_on e (greater h) = greater (rest (sym e) h)

@@ -1,12 +1,10 @@
 -- The order rule of the three parts, each by one test that computes over it, and what it says of a search whichever way it goes.
-use Rattle.std.specs.Prelude.{◌≡◌, refl, ◌⊎◌, Bool, true, false, cond, ◌&&◌, List, [], ◌∷◌, T, length}
+use Rattle.std.specs.Prelude.{◌≡◌, refl, ◌⊎◌, Bool, true, false, cond, ◌&&◌, List, [], ◌∷◌, T, length, Option, Some, None}
 use Rattle.std.proofs.Common.{sym, ◌∙◌, ap, subst, inl, inr, le_of_suc-le-suc, not-suc-le-zero, add-zero, add-suc, suc-add, zero-add, eq-or-lt_of_le, arith}
 use Prim.Native.Nat.{ℕ, zero, suc, ◌+◌, ◌-◌, ◌≤◌, ◌<◌, zero-le, suc-le-suc, Ordering}
 use Prim.Native.String.{String, compare}
 use Rattle.text.specs.Text.{ascii, same}
 use Rattle.text.specs.TextLaws.{same_eq, same_refl, same_not}
-use Rattle.names.specs.declared.Found.{Found}
-use Rattle.names.specs.declared.Found.TheVariants.{At, Nothing}
 use Rattle.names.specs.Listed.{listed, exceptions, imprecise}
 use Rattle.names.specs.Lookup.{seek, lookup, bytes_at, licence_texts, imprecise_texts}
 use Rattle.names.specs.Order.{Ascending}
@@ -106,41 +104,41 @@ module _ (ns : List String) (run : List ℕ) (k : ℕ) (s : Ascending ns) (h : k
 
 -- a name that is there is found at its place, and one that is not is not found
 found_from : (i : ℕ) (ns : List String) (run : List ℕ) (k : ℕ) → Ascending ns → k < length ns → bytes_at ns k ≡ run
-    → seek i ns run ≡ At (i + k)
+    → seek i ns run ≡ Some (i + k)
 unfolding seek Ascending bytes_at
 found_from i [] run k s h e = absurd (not-suc-le-zero h)
 found_from i (n ∷ ns) run zero s h e =
-    ap (λ (t : Bool). cond t (At i) (seek (suc i) ns run)) (subst (λ (r : List ℕ). same (ascii n) r ≡ true) e (same_refl (ascii n)))
-    ∙ ap At (sym (add-zero i))
+    ap (λ (t : Bool). cond t (Some i) (seek (suc i) ns run)) (subst (λ (r : List ℕ). same (ascii n) r ≡ true) e (same_refl (ascii n)))
+    ∙ ap Some (sym (add-zero i))
 found_from i (n ∷ ns) run (suc k) s h e =
-    ap (λ (t : Bool). cond t (At i) (seek (suc i) ns run))
+    ap (λ (t : Bool). cond t (Some i) (seek (suc i) ns run))
     (same_not (ascii n) run (λ q. below_irrefl (less_below (ascii n) (bytes_at ns k) (s 0 (suc k) (suc-le-suc zero-le) h)) (q ∙ sym e)))
     ∙ found_from (suc i) ns run k (λ a b l m. s (suc a) (suc b) (suc-le-suc l) (suc-le-suc m)) (le_of_suc-le-suc h) e
-    ∙ ap At (suc-add i k ∙ sym (add-suc i k))
+    ∙ ap Some (suc-add i k ∙ sym (add-suc i k))
 
-absent_from : (i : ℕ) (ns : List String) (run : List ℕ) → ((k : ℕ) → k < length ns → bytes_at ns k ≡ run → ⊥) → seek i ns run ≡ Nothing
+absent_from : (i : ℕ) (ns : List String) (run : List ℕ) → ((k : ℕ) → k < length ns → bytes_at ns k ≡ run → ⊥) → seek i ns run ≡ None
 unfolding seek bytes_at
 absent_from i [] run f = refl
 absent_from i (n ∷ ns) run f =
-    ap (λ (t : Bool). cond t (At i) (seek (suc i) ns run)) (same_not (ascii n) run (λ q. f 0 (suc-le-suc zero-le) q))
+    ap (λ (t : Bool). cond t (Some i) (seek (suc i) ns run)) (same_not (ascii n) run (λ q. f 0 (suc-le-suc zero-le) q))
     ∙ absent_from (suc i) ns run (λ k h e. f (suc k) (suc-le-suc h) e)
 
-pub found : (ns : List String) (run : List ℕ) (k : ℕ) → Ascending ns → k < length ns → bytes_at ns k ≡ run → lookup ns run ≡ At k
+pub found : (ns : List String) (run : List ℕ) (k : ℕ) → Ascending ns → k < length ns → bytes_at ns k ≡ run → lookup ns run ≡ Some k
 unfolding lookup
-found ns run k s h e = found_from 0 ns run k s h e ∙ ap At (zero-add k)
+found ns run k s h e = found_from 0 ns run k s h e ∙ ap Some (zero-add k)
 
-pub absent : (ns : List String) (run : List ℕ) → ((k : ℕ) → k < length ns → bytes_at ns k ≡ run → ⊥) → lookup ns run ≡ Nothing
+pub absent : (ns : List String) (run : List ℕ) → ((k : ℕ) → k < length ns → bytes_at ns k ≡ run → ⊥) → lookup ns run ≡ None
 unfolding lookup
 absent ns run f = absent_from 0 ns run f
 
 -- what an answer says: a found place is one of the part, and its name is the run
-abbrev pub Finds : List String → List ℕ → Found → Type 0
-Finds ns run (At k) = (k < length ns) × (bytes_at ns k ≡ run)
-Finds ns run Nothing = Unit {0}
+abbrev pub Finds : List String → List ℕ → Option ℕ → Type 0
+Finds ns run (Some k) = (k < length ns) × (bytes_at ns k ≡ run)
+Finds ns run None = Unit {0}
 
-abbrev FindsFrom : ℕ → List String → List ℕ → Found → Type 0
-FindsFrom i ns run (At k) = (i ≤ k) × (k < i + length ns) × (bytes_at ns (k - i) ≡ run)
-FindsFrom i ns run Nothing = Unit {0}
+abbrev FindsFrom : ℕ → List String → List ℕ → Option ℕ → Type 0
+FindsFrom i ns run (Some k) = (i ≤ k) × (k < i + length ns) × (bytes_at ns (k - i) ≡ run)
+FindsFrom i ns run None = Unit {0}
 
 finds_from : (i : ℕ) (ns : List String) (run : List ℕ) → FindsFrom i ns run (seek i ns run)
 unfolding seek bytes_at
@@ -150,20 +148,20 @@ finds_from i (n ∷ ns) run = go (same (ascii n) run) refl (seek (suc i) ns run)
     there : (k : ℕ) → suc i ≤ k → bytes_at (n ∷ ns) (k - i) ≡ bytes_at ns (k - suc i)
     there k h = let e : k - i ≡ suc (k - suc i) = omega arith in ap (λ (j : ℕ). bytes_at (n ∷ ns) j) e
 
-    go : (q : Bool) → same (ascii n) run ≡ q → (f : Found) → FindsFrom (suc i) ns run f → FindsFrom i (n ∷ ns) run (cond q (At i) f)
+    go : (q : Bool) → same (ascii n) run ≡ q → (f : Option ℕ) → FindsFrom (suc i) ns run f → FindsFrom i (n ∷ ns) run (cond q (Some i) f)
     go true e f h =
         let z : i - i ≡ 0 = omega arith in
         (omega arith, omega arith, ap (λ (j : ℕ). bytes_at (n ∷ ns) j) z ∙ same_eq (ascii n) run e)
-    go false e (At k) h = (omega arith, omega arith, there k h.0 ∙ h.2)
-    go false e Nothing h = tt
+    go false e (Some k) h = (omega arith, omega arith, there k h.0 ∙ h.2)
+    go false e None h = tt
 
 pub finds : (ns : List String) (run : List ℕ) → Finds ns run (lookup ns run)
 unfolding lookup
 finds ns run = go (seek 0 ns run) (finds_from 0 ns run)
   where
-    go : (f : Found) → FindsFrom 0 ns run f → Finds ns run f
-    go (At k) h = let z : k ≡ k - 0 = omega arith in (omega arith, ap (bytes_at ns) z ∙ h.2)
-    go Nothing h = tt
+    go : (f : Option ℕ) → FindsFrom 0 ns run f → Finds ns run f
+    go (Some k) h = let z : k ≡ k - 0 = omega arith in (omega arith, ap (bytes_at ns) z ∙ h.2)
+    go None h = tt
 
-pub finds_at : (ns : List String) (run : List ℕ) (k : ℕ) → lookup ns run ≡ At k → (k < length ns) × (bytes_at ns k ≡ run)
-finds_at ns run k e = subst (λ (f : Found). Finds ns run f) e (finds ns run)
+pub finds_at : (ns : List String) (run : List ℕ) (k : ℕ) → lookup ns run ≡ Some k → (k < length ns) × (bytes_at ns k ≡ run)
+finds_at ns run k e = subst (λ (f : Option ℕ). Finds ns run f) e (finds ns run)

@@ -1,11 +1,8 @@
 -- Worked answers of the lookups, computed.
-use Rattle.std.specs.Prelude.{◌≡◌, refl, Bool, true, false, List, [], ℕ}
+use Rattle.std.specs.Prelude.{◌≡◌, refl, Bool, true, false, List, [], ℕ, Option, Some, None}
 use Prim.Native.String.{String}
 use Rattle.text.specs.Text.{ascii, same, ends}
-use Rattle.names.specs.declared.Found.{Found}
-use Rattle.names.specs.declared.Found.TheVariants.{At, Nothing}
 use Rattle.names.specs.declared.Loose.{Loose}
-use Rattle.names.specs.declared.Loose.TheVariants.{Hit, Miss}
 use Rattle.names.specs.Listed.{listed, exceptions, imprecise}
 use Rattle.names.specs.Lookup.{
   seek,
@@ -28,13 +25,13 @@ use Rattle.names.specs.Lookup.{
 }
 
 -- answers by name, none where there is none: a partner of a listed name, and an imprecise name's licence with the bytes it takes
-abbrev named : Found → List ℕ
-named (At k) = licence_name k
-named Nothing = []
+abbrev named : Option ℕ → List ℕ
+named (Some k) = licence_name k
+named None = []
 
-abbrev partner : (ℕ → Found) → Found → List ℕ
-partner f (At k) = named (f k)
-partner f Nothing = ascii "not listed"
+abbrev partner : (ℕ → Option ℕ) → Option ℕ → List ℕ
+partner f (Some k) = named (f k)
+partner f None = ascii "not listed"
 
 abbrev later : String → List ℕ
 later s = partner later_of (licence_of (ascii s))
@@ -42,22 +39,22 @@ later s = partner later_of (licence_of (ascii s))
 abbrev only : String → List ℕ
 only s = partner only_of (licence_of (ascii s))
 
-abbrev deprecated : Found → Bool
-deprecated (At k) = deprecated_of k
-deprecated Nothing = false
+abbrev deprecated : Option ℕ → Bool
+deprecated (Some k) = deprecated_of k
+deprecated None = false
 
-abbrev taken : Loose → List ℕ × ℕ
-taken (Hit k n) = (licence_name k, n)
-taken Miss = ([], 0)
+abbrev taken : Option Loose → List ℕ × ℕ
+taken (Some x) = (licence_name x.licence, x.len)
+taken None = ([], 0)
 
 abbrev loose : String → List ℕ × ℕ
 loose s = taken (imprecise_of (ascii s))
 
-pub worked : (licence_of (ascii "MIT") ≡ At 20)
-    × (licence_of (ascii "mit") ≡ Nothing)
-    × (licence_of (ascii "MI") ≡ Nothing)
-    × (exception_of (ascii "LLVM-exception") ≡ At 4)
-    × (exception_of (ascii "MIT") ≡ Nothing)
+pub worked : (licence_of (ascii "MIT") ≡ Some 20)
+    × (licence_of (ascii "mit") ≡ None)
+    × (licence_of (ascii "MI") ≡ None)
+    × (exception_of (ascii "LLVM-exception") ≡ Some 4)
+    × (exception_of (ascii "MIT") ≡ None)
     × (later "GPL-2.0" ≡ ascii "GPL-2.0-or-later")
     × (later "GPL-2.0-only" ≡ ascii "GPL-2.0-or-later")
     × (later "GPL-2.0-or-later" ≡ [])

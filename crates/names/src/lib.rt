@@ -1,290 +1,263 @@
 // The names that the terminal knows, and their lookup.
 #![tactic(auto)]
 
-ghost use Rattle.std.specs.Prelude.{◌≡◌, ◌+◌, ◌^◌, ◌<◌, ◌≤◌, get_or, length, drop};
+ghost use Rattle.std.specs.Prelude.{◌≡◌, ◌+◌, ◌*◌, ◌^◌, ◌<◌, ◌≤◌, get_or, length, drop};
 ghost use Rattle.text.specs.Text.{begins};
 ghost use Rattle.text.specs.Overlay.{overlay};
 ghost use Rattle.names.specs.Order.{order, Ascending};
 ghost use Rattle.names.specs.Listed.{table_bytes};
-ghost use Rattle.names.specs.Layout.{rows, table_of, words, texts, part, name_at, start_at, mark_at, after_of};
+ghost use Rattle.names.specs.Layout.{rows, table_of, texts, part, name_at, start_at, mark_at, flag_of, partner_of, after_of};
 ghost use Rattle.names.specs.Lookup.{lookup, licence_of, exception_of, imprecise_of, deprecated_of, gnu_of, is_later, later_of, only_of};
 
 pub mod table;
 
+use std::cmp::Ordering;
 use table::{EXCEPTIONS, LICENCES, NAMES};
 
-// Where a run of bytes stands among the names of a part, if it does.
-#[derive(Clone, Copy)]
-pub enum Found {
-    At(usize),
-    Nothing,
-}
+// What a licence's mark holds: three flags, a bit each, and from two units on how far its partners stand after it.
+const DEPRECATED: usize = 1;
+
+const GNU: usize = 2;
+
+const OR_LATER: usize = 4;
+
+const LATER: usize = 8;
+
+const ONLY: usize = 128;
 
 // An imprecise name that begins a text: the licence that it stands for, and its length.
 #[derive(Clone, Copy)]
-pub enum Loose {
-    Hit { licence: usize, len: usize },
-    Miss,
-}
-
-// How one run of bytes stands to another.
-#[derive(Clone, Copy)]
-pub enum Order {
-    Less,
-    Equal,
-    Greater,
+pub struct Loose {
+    pub licence: usize,
+    pub len: usize,
 }
 
 // The byte at place i of the table.
-fn cell(t: &[u64], i: usize) -> u8
-    requires { (t.now ≡ words) × (i < table_bytes) }
+fn cell(i: usize) -> u8
+    requires { i < table_bytes }
     ensures { result ≡ get_or (table_of rows) i 0 }
 {
-    let w = t[i / 8];
-    let s = 8 * (i % 8);
-    ((w >> s) % 256) as u8
+    table::table()[i / 8].to_le_bytes()[i % 8]
+}
+
+// The two bytes from place i of the table on as one number, the low byte first.
+fn pair(i: usize) -> usize
+    requires { i + 1 < table_bytes }
+    ensures { result ≡ get_or (table_of rows) i 0 + 256 * get_or (table_of rows) (i + 1) 0 }
+{
+    u16::from_le_bytes([cell(i), cell(i + 1)]) as usize
 }
 
 // Where the name k starts.
-fn start(t: &[u64], k: usize) -> usize
-    requires { (t.now ≡ words) × (k < length rows) }
+fn start(k: usize) -> usize
+    requires { k < length rows }
     ensures { result ≡ start_at k }
 {
-    cell(t, 5 * k) as usize + 256 * cell(t, 5 * k + 1) as usize
+    pair(5 * k)
 }
 
 // How long the name k is.
-fn len(t: &[u64], k: usize) -> usize
-    requires { (t.now ≡ words) × (k < length rows) }
+fn len(k: usize) -> usize
+    requires { k < length rows }
     ensures { result ≡ length (name_at k) }
 {
-    cell(t, 5 * k + 2) as usize
+    cell(5 * k + 2) as usize
 }
 
 // The mark of the name k.
-fn mark(t: &[u64], k: usize) -> usize
-    requires { (t.now ≡ words) × (k < length rows) }
+fn mark(k: usize) -> usize
+    requires { k < length rows }
     ensures { result ≡ mark_at k }
 {
-    cell(t, 5 * k + 3) as usize + 256 * cell(t, 5 * k + 4) as usize
+    pair(5 * k + 3)
 }
 
 // How a run of bytes stands to the name k.
-fn compare(t: &[u64], run: &[u8], k: usize) -> Order
-    requires { (t.now ≡ words) × (k < length rows) }
+fn compare(run: &[u8], k: usize) -> Ordering
+    requires { k < length rows }
     ensures { result ≡ order run.now (name_at k) }
 {
-    let at = start(t, k);
-    let n = len(t, k);
-    let mut i = 0;
-    while i < n {
+    let at = start(k);
+    let n = len(k);
+    for i in 0..n {
         if run.len() <= i {
-            return Order::Less;
+            return Ordering::Less;
         }
         let b = run[i];
-        let x = cell(t, at + i);
+        let x = cell(at + i);
         if b < x {
-            return Order::Less;
+            return Ordering::Less;
         }
         if x < b {
-            return Order::Greater;
+            return Ordering::Greater;
         }
-        i += 1;
     }
-    if i < run.len() {
-        Order::Greater
+    if n < run.len() {
+        Ordering::Greater
     } else {
-        Order::Equal
+        Ordering::Equal
     }
 }
 
 // The place of a run among the names from one place up to another: a name of another length is passed by unread, and the walk ends at the
 // first of the run's length that is not before it.
-fn find(t: &[u64], run: &[u8], from: usize, to: usize) -> Found
-    requires { (t.now ≡ words) × (from ≤ to) × (to ≤ length rows) × Ascending (texts (part from to)) }
+fn find(run: &[u8], from: usize, to: usize) -> Option<usize>
+    requires { (from ≤ to) × (to ≤ length rows) × Ascending (texts (part from to)) }
     ensures { result ≡ lookup (texts (part from to)) run.now }
 {
-    let mut k = from;
-    while k < to {
-        if len(t, k) == run.len() {
-            let o = compare(t, run, k);
-            match o {
-                Order::Equal => {
-                    return Found::At(k - from);
-                }
-                Order::Less => {
-                    return Found::Nothing;
-                }
-                Order::Greater => {
-                    k += 1;
-                }
+    for k in from..to {
+        if len(k) == run.len() {
+            match compare(run, k) {
+                Ordering::Equal => return Some(k - from),
+                Ordering::Less => return None,
+                Ordering::Greater => {}
             }
-        } else {
-            k += 1;
         }
     }
-    Found::Nothing
+    None
 }
 
 // The licence that a run of bytes names.
-pub fn licence(t: &[u64], run: &[u8]) -> Found
-    requires { t.now ≡ words }
+pub fn licence(run: &[u8]) -> Option<usize>
     ensures { result ≡ licence_of run.now }
 {
-    find(t, run, 0, LICENCES)
+    find(run, 0, LICENCES)
 }
 
 // The exception that a run of bytes names.
-pub fn exception(t: &[u64], run: &[u8]) -> Found
-    requires { t.now ≡ words }
+pub fn exception(run: &[u8]) -> Option<usize>
     ensures { result ≡ exception_of run.now }
 {
-    find(t, run, LICENCES, EXCEPTIONS)
+    find(run, LICENCES, EXCEPTIONS)
 }
 
-// Does the name k stand in s at a place?
-fn stands(t: &[u64], k: usize, s: &[u8], at: usize) -> bool
-    requires { (t.now ≡ words) × (k < length rows) }
-    ensures { result ≡ begins (name_at k) (drop at s.now) }
+// Does the name k begin s?
+fn begins(k: usize, s: &[u8]) -> bool
+    requires { k < length rows }
+    ensures { result ≡ begins (name_at k) s.now }
 {
-    let from = start(t, k);
-    let n = len(t, k);
-    let mut i = 0;
-    let mut j = at;
-    while i < n {
-        if s.len() <= j {
+    let from = start(k);
+    for i in 0..len(k) {
+        if s.len() <= i {
             return false;
         }
-        if cell(t, from + i) != s[j] {
+        if cell(from + i) != s[i] {
             return false;
         }
-        i += 1;
-        j += 1;
     }
     true
 }
 
 // The longest imprecise name that begins the text at a place: of two that do, the longer stands later, so the walk goes down.
-pub fn imprecise(t: &[u64], s: &[u8], at: usize) -> Loose
-    requires { t.now ≡ words }
+pub fn imprecise(s: &[u8], at: usize) -> Option<Loose>
     ensures { result ≡ imprecise_of (drop at s.now) }
 {
-    let mut k = NAMES;
-    while EXCEPTIONS < k {
-        k -= 1;
-        if stands(t, k, s, at) {
-            return Loose::Hit {
-                licence: mark(t, k),
-                len: len(t, k),
-            };
+    let rest = text::cut(s, at, s.len());
+    for k in (EXCEPTIONS..NAMES).rev() {
+        if begins(k, rest) {
+            return Some(Loose {
+                licence: mark(k),
+                len: len(k),
+            });
         }
     }
-    Loose::Miss
+    None
+}
+
+// Does the licence k have a flag in its mark?
+fn has(k: usize, flag: usize) -> bool
+    requires { 0 < flag }
+    ensures { result ≡ flag_of k flag }
+{
+    if k < LICENCES {
+        mark(k) / flag % 2 == 1
+    } else {
+        false
+    }
 }
 
 // Is the licence k deprecated?
-pub fn deprecated(t: &[u64], k: usize) -> bool
-    requires { t.now ≡ words }
+pub fn deprecated(k: usize) -> bool
     ensures { result ≡ deprecated_of k }
 {
-    if k < LICENCES {
-        mark(t, k) % 2 == 1
-    } else {
-        false
-    }
+    has(k, DEPRECATED)
 }
 
 // Is the licence k a GNU name?
-pub fn gnu(t: &[u64], k: usize) -> bool
-    requires { t.now ≡ words }
+pub fn gnu(k: usize) -> bool
     ensures { result ≡ gnu_of k }
 {
-    if k < LICENCES {
-        mark(t, k) / 2 % 2 == 1
-    } else {
-        false
-    }
+    has(k, GNU)
 }
 
 // Is the licence k a GNU name that ends in "-or-later"?
-pub fn is_later(t: &[u64], k: usize) -> bool
-    requires { t.now ≡ words }
+pub fn is_later(k: usize) -> bool
     ensures { result ≡ is_later k }
 {
-    if k < LICENCES {
-        mark(t, k) / 4 % 2 == 1
-    } else {
-        false
-    }
+    has(k, OR_LATER)
 }
 
 // The place that is some places after k, if it is any.
-fn after(k: usize, places: usize) -> Found
+fn after(k: usize, places: usize) -> Option<usize>
     requires { k + places < 2 ^ 64 }
     ensures { result ≡ after_of k places }
 {
-    if places == 0 {
-        Found::Nothing
+    if places == 0 { None } else { Some(k + places) }
+}
+
+// The partner of the licence k whose distance stands in its mark from a unit on.
+fn partner(k: usize, unit: usize) -> Option<usize>
+    requires { 0 < unit }
+    ensures { result ≡ partner_of k unit }
+{
+    if k < LICENCES {
+        after(k, mark(k) / unit % 16)
     } else {
-        Found::At(k + places)
+        None
     }
 }
 
 // The "-or-later" name of the GNU licence k, without "-only" first.
-pub fn later(t: &[u64], k: usize) -> Found
-    requires { t.now ≡ words }
+pub fn later(k: usize) -> Option<usize>
     ensures { result ≡ later_of k }
 {
-    if k < LICENCES {
-        after(k, mark(t, k) / 8 % 16)
-    } else {
-        Found::Nothing
-    }
+    partner(k, LATER)
 }
 
 // The "-only" name of the bare GNU licence k.
-pub fn only(t: &[u64], k: usize) -> Found
-    requires { t.now ≡ words }
+pub fn only(k: usize) -> Option<usize>
     ensures { result ≡ only_of k }
 {
-    if k < LICENCES {
-        after(k, mark(t, k) / 128 % 16)
-    } else {
-        Found::Nothing
-    }
+    partner(k, ONLY)
 }
 
 // How long the name k of the table is: licences, then exceptions, then imprecise names.
-pub fn name_len(t: &[u64], k: usize) -> usize
-    requires { t.now ≡ words }
+pub fn name_len(k: usize) -> usize
     ensures { result ≡ length (name_at k) }
 {
-    if k < NAMES { len(t, k) } else { 0 }
+    if k < NAMES { len(k) } else { 0 }
 }
 
 // The byte i of the name k of the table, 0 past its end.
-pub fn name_byte(t: &[u64], k: usize, i: usize) -> u8
-    requires { t.now ≡ words }
+pub fn name_byte(k: usize, i: usize) -> u8
     ensures { result ≡ get_or (name_at k) i 0 }
 {
-    if i < name_len(t, k) {
-        cell(t, start(t, k) + i)
+    if i < name_len(k) {
+        cell(start(k) + i)
     } else {
         0
     }
 }
 
 // Writes the name k of the table into a buffer from a place on, and answers the place behind it.
-pub fn put_name(t: &[u64], k: usize, out: &mut [u8], at: usize) -> usize
-    requires { (t.now ≡ words) × (k < length rows) × (at + length (name_at k) ≤ length out.old) }
+pub fn put_name(k: usize, out: &mut [u8], at: usize) -> usize
+    requires { (k < length rows) × (at + length (name_at k) ≤ length out.old) }
     ensures { (result ≡ at + length (name_at k)) × (out.new ≡ overlay at (name_at k) out.old) }
 {
-    let from = start(t, k);
-    let n = len(t, k);
-    let mut i = 0;
-    while i < n {
-        out[at + i] = cell(t, from + i);
-        i += 1;
+    let from = start(k);
+    let n = len(k);
+    for i in 0..n {
+        out[at + i] = cell(from + i);
     }
     at + n
 }

@@ -11,7 +11,7 @@ pub const EXCEPTIONS: usize = 31;
 
 pub const NAMES: usize = 36;
 
-const TABLE: [u64; 70] = [
+static TABLE: [u64; 70] = [
     0x0A00B800000400B4,
     0xCE00000C00C20000,
     0x000700DA00000C00,
@@ -84,9 +84,9 @@ const TABLE: [u64; 70] = [
     0x0000000000000074,
 ];
 
-// The table, made once for each public call and lent downwards.
-pub fn table() -> [u64; 70]
-    ensures { result ≡ words }
+// The table: it lies in the program once, and is read where it lies.
+pub fn table() -> &'static [u64; 70]
+    ensures { result.now ≡ words }
 {
-    TABLE
+    &TABLE
 }
