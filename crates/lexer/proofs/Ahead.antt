@@ -1,6 +1,8 @@
 -- What a step may answer, and that it goes ahead: its token starts at the cursor or after it, is not empty, ends inside the text
 -- and in its own run, and the next cursor stands at its end.
-use Rattle.std.specs.Prelude.{ℕ, ◌+◌, ◌<◌, ◌≤◌, ◌≡◌, refl, ◌&&◌, ◌||◌, List, leb, ltb, drop}
+use Rattle.refusal.specs.declared.Refusal.{Refusal}
+use Rattle.lexer.specs.Step.{Step}
+use Rattle.std.specs.Prelude.{ℕ, ◌+◌, ◌<◌, ◌≤◌, ◌≡◌, refl, ◌&&◌, ◌||◌, List, leb, ltb, drop, Option, Some, None, Result, Ok, Err, ⊤}
 use Rattle.std.proofs.Common.{◌∙◌, ap, arith}
 use Rattle.std.proofs.Math.Bool.{true}
 use Rattle.std.proofs.Math.Dec.{eqb}
@@ -15,25 +17,14 @@ use Rattle.utf8.specs.Utf8.{past_white, white_width, inside_of}
 use Rattle.names.specs.Lookup.{licence_of, exception_of, imprecise_of, bytes_at, imprecise_texts}
 use Rattle.names.specs.Shape.{imprecise_proper}
 use Rattle.names.proofs.Fits.{LooseIs, imprecise_is}
-use Rattle.names.specs.declared.Found.{Found}
-use Rattle.names.specs.declared.Found.TheVariants.{At, Nothing}
 use Rattle.names.specs.declared.Loose.{Loose}
-use Rattle.names.specs.declared.Loose.TheVariants.{Hit, Miss}
 use Rattle.refusal.specs.Refused.{span}
 use Rattle.refusal.specs.declared.Span.{Span}
 use Rattle.refusal.specs.declared.Refusal.TheVariants.{InvalidCharacters, UnknownTerm, SeparatedPlus}
 use Rattle.mode.specs.declared.Mode.{Mode}
-use Rattle.lexer.specs.declared.Doc.{Doc}
-use Rattle.lexer.specs.declared.Doc.TheVariants.{Absent, Part}
 use Rattle.lexer.specs.declared.Token.{Token}
 use Rattle.lexer.specs.declared.Token.TheVariants.{Licence, Exception, LicenseRef, AdditionRef}
 use Rattle.lexer.specs.declared.Cursor.{Cursor}
-use Rattle.lexer.specs.declared.Word.{Word}
-use Rattle.lexer.specs.declared.Word.TheVariants.{Is, Not}
-use Rattle.lexer.specs.declared.Checked.{Checked}
-use Rattle.lexer.specs.declared.Checked.TheVariants.{Fine, Bad}
-use Rattle.lexer.specs.declared.Step.{Step}
-use Rattle.lexer.specs.declared.Step.TheVariants.{Got, Done, Refused}
 use Rattle.lexer.specs.Lex.{
   run_end,
   ref_end,
@@ -59,14 +50,14 @@ use Rattle.lexer.specs.Lex.{
 use Rattle.lexer.proofs.RunLaws.{run_ge, run_le, ref_ge, run_byte_lem, run_word, run_ref}
 
 -- a try's token, in the run from p to e, ends behind p and not behind e
-abbrev pub InRun : ℕ → ℕ → Word → Type 0
-InRun p e (Is t x) = (p < x) × (x ≤ e)
-InRun p e Not = Unit {0}
+abbrev pub InRun : ℕ → ℕ → Option (Token × ℕ) → Type 0
+InRun p e (Some (t, x)) = (p < x) × (x ≤ e)
+InRun p e None = Unit {0}
 
 -- what two tries in order say, if both keep to the run
-either_in : (p e : ℕ) (v w : Word) → InRun p e v → InRun p e w → InRun p e (or_else v w)
-either_in p e (Is t x) w f g = f
-either_in p e Not w f g = g
+either_in : (p e : ℕ) (v w : Option (Token × ℕ)) → InRun p e v → InRun p e w → InRun p e (or_else v w)
+either_in p e (Some (t, x)) w f g = f
+either_in p e None w f g = g
 
 -- the prefixes are run bytes
 license_all : All run_byte (ascii "LicenseRef-")
@@ -90,17 +81,17 @@ module _ (s : List ℕ) (m : Mode) (p : ℕ) where
       (λ x. by_cond (InRun p e) (same r (ascii "OR") || same r (ascii "or")) _ _ (λ y. (h, omega arith))
       (λ y. by_cond (InRun p e) (same r (ascii "WITH") || same r (ascii "with")) _ _ (λ w. (h, omega arith)) (λ w. tt)))
 
-  found_in : (kind : ℕ → Token) (e : ℕ) (f : Found) → p < e → InRun p e (found kind e f)
-  found_in kind e (At k) h = (h, omega arith)
-  found_in kind e Nothing h = tt
+  found_in : (kind : ℕ → Token) (e : ℕ) (f : Option ℕ) → p < e → InRun p e (found kind e f)
+  found_in kind e (Some k) h = (h, omega arith)
+  found_in kind e None h = tt
 
   unknown_in : (e : ℕ) → p < e → InRun p e (unknown_of m p e)
   unfolding unknown_of
   unknown_in e h = by_cond (InRun p e) m.unknown _ _ (λ x. (h, omega arith)) (λ x. tt)
 
   -- a reference from a place q of the run on
-  module _ (kind : Doc → Span → Token) (w : List ℕ) (all : All run_byte w) (some : 0 < length w) where
-    ref_in : (d : Doc) (q : ℕ) → p ≤ q → run_end s p ≡ run_end s q → InRun p (run_end s p) (ref_of kind w d s q)
+  module _ (kind : Option Span → Span → Token) (w : List ℕ) (all : All run_byte w) (some : 0 < length w) where
+    ref_in : (d : Option Span) (q : ℕ) → p ≤ q → run_end s p ≡ run_end s q → InRun p (run_end s p) (ref_of kind w d s q)
     unfolding ref_of
     ref_in d q h e =
         by_cond (InRun p (run_end s p)) (begins w (drop q s)) _ _
@@ -114,7 +105,7 @@ module _ (s : List ℕ) (m : Mode) (p : ℕ) where
     documented_in =
         by_cond (InRun p (run_end s p)) (begins (ascii "DocumentRef-") (drop p s) && eqb (get_or s (ref_end s p) 0) 0x3A) _ _
         (λ x. let y = both (begins (ascii "DocumentRef-") (drop p s)) (eqb (get_or s (ref_end s p) 0) 0x3A) x in
-        ref_in (Part (span (p + 12) (ref_end s p))) (ref_end s p + 1) (omega (arith, ref_ge s p))
+        ref_in (Some (span (p + 12) (ref_end s p))) (ref_end s p + 1) (omega (arith, ref_ge s p))
         (run_ref s p ∙ run_byte_lem s (ref_end s p) (colon_run (get_or s (ref_end s p) 0) y.1)))
         (λ x. tt)
 
@@ -123,12 +114,12 @@ module _ (s : List ℕ) (m : Mode) (p : ℕ) where
   imprecise_in =
       by_cond (InRun p (run_end s p)) m.imprecise _ _ (λ x. go (imprecise_of (drop p s)) (imprecise_is (drop p s))) (λ x. tt)
     where
-      go : (l : Loose) → LooseIs (drop p s) l → InRun p (run_end s p) (hit p l)
-      go (Hit k n) i =
+      go : (l : Option Loose) → LooseIs (drop p s) l → InRun p (run_end s p) (hit p l)
+      go (Some x) i =
           let w = bytes_at imprecise_texts i.place in
           let f = run_word s p w (imprecise_proper i.place i.within).run i.begun in
           (omega (arith, i.some), omega (arith, i.long, run_ge s (p + length w)))
-      go Miss i = tt
+      go None i = tt
 
   -- a token does not leave its run
   pub word_in : p < run_end s p → InRun p (run_end s p) (word_of s m p (run_end s p))
@@ -141,28 +132,28 @@ module _ (s : List ℕ) (m : Mode) (p : ℕ) where
       (either_in p e (found Exception e (exception_of r)) _ (found_in Exception e (exception_of r) h)
       (either_in p e (documented LicenseRef (ascii "LicenseRef-") s p) _
       (documented_in LicenseRef (ascii "LicenseRef-") license_all (omega arith))
-      (either_in p e (ref_of LicenseRef (ascii "LicenseRef-") Absent s p) _
-      (ref_in LicenseRef (ascii "LicenseRef-") license_all (omega arith) Absent p (omega arith) refl)
+      (either_in p e (ref_of LicenseRef (ascii "LicenseRef-") None s p) _
+      (ref_in LicenseRef (ascii "LicenseRef-") license_all (omega arith) None p (omega arith) refl)
       (either_in p e (documented AdditionRef (ascii "AdditionRef-") s p) _
       (documented_in AdditionRef (ascii "AdditionRef-") addition_all (omega arith))
-      (either_in p e (ref_of AdditionRef (ascii "AdditionRef-") Absent s p) _
-      (ref_in AdditionRef (ascii "AdditionRef-") addition_all (omega arith) Absent p (omega arith) refl)
+      (either_in p e (ref_of AdditionRef (ascii "AdditionRef-") None s p) _
+      (ref_in AdditionRef (ascii "AdditionRef-") addition_all (omega arith) None p (omega arith) refl)
       (either_in p e (imprecise_at s m p) (unknown_of m p e) imprecise_in (unknown_in e h))))))))
 
 -- all that a step may answer from `at`, where its white space ends at p
 pub data Answer (s : List ℕ) (m : Mode) (at p : ℕ) : Step → Type 0 where
   -- the end of the text
-  ended : length s ≤ p → Answer s m at p Done
+  ended : length s ≤ p → Answer s m at p (Ok None)
   -- a token of one ASCII byte
   mark : {t : Token} → p < length s → get_or s p 0 ≤ 0x7F → Answer s m at p (got m t p (p + 1))
   -- a token in its run
   word : {t : Token} {x : ℕ} → p < length s → p < x → x ≤ run_end s p → Answer s m at p (got m t p x)
   -- 3, no run begins here
-  invalid : p < length s → Answer s m at p (Refused (InvalidCharacters (span p (length s))))
+  invalid : p < length s → Answer s m at p (Err (InvalidCharacters (span p (length s))))
   -- 4, a run that is not known
-  unknown : p < length s → p < run_end s p → Answer s m at p (Refused (UnknownTerm (span p (run_end s p))))
+  unknown : p < length s → p < run_end s p → Answer s m at p (Err (UnknownTerm (span p (run_end s p))))
   -- 5, white space before `+`
-  apart : at < p → p < length s → Answer s m at p (Refused (SeparatedPlus (span at p)))
+  apart : at < p → p < length s → Answer s m at p (Err (SeparatedPlus (span at p)))
 
 module _ (s : List ℕ) (m : Mode) (at p : ℕ) (start : at ≤ p) where
   run_answer : p < length s → Answer s m at p (run_of s m p)
@@ -172,9 +163,9 @@ module _ (s : List ℕ) (m : Mode) (at p : ℕ) (start : at ≤ p) where
       (λ x. let h : p < run_end s p = omega (arith, run_ge s p, eqb-false (run_end s p) p x) in
       go h (word_of s m p (run_end s p)) (word_in s m p h))
     where
-      go : p < run_end s p → (w : Word) → InRun p (run_end s p) w → Answer s m at p (told m p (run_end s p) w)
-      go h (Is t x) i = word k i.0 i.1
-      go h Not i = unknown k h
+      go : p < run_end s p → (w : Option (Token × ℕ)) → InRun p (run_end s p) w → Answer s m at p (told m p (run_end s p) w)
+      go h (Some (t, x)) i = word k i.0 i.1
+      go h None i = unknown k h
 
   mark_answer : Answer s m at p (mark_of s m at p)
   unfolding mark_of
@@ -208,9 +199,9 @@ pub record TokenAt (s : List ℕ) (m : Mode) (at : ℕ) (sp : Span) (nx : Cursor
 
 -- a step goes ahead, if it gives a token
 abbrev pub Ahead : List ℕ → Mode → ℕ → Step → Type 0
-Ahead s m at (Got t sp nx) = TokenAt s m at sp nx
-Ahead s m at Done = Unit {0}
-Ahead s m at (Refused r) = Unit {0}
+Ahead s m at (Ok (Some g)) = TokenAt s m at g.span g.next
+Ahead s m at (Ok None) = Unit {0}
+Ahead s m at (Err r) = Unit {0}
 
 module _ (s : List ℕ) (m : Mode) (at : ℕ) where
   answer_ahead : (p : ℕ) (st : Step) → at ≤ p → Answer s m at p st → Ahead s m at st
@@ -233,6 +224,6 @@ module _ (s : List ℕ) (m : Mode) (at : ℕ) where
   unfolding step_of from_of
   step_ahead = go (check_of s)
     where
-      go : (c : Checked) → Ahead s m at (if_fine c (from_of s m at))
-      go Fine = by_cond (Ahead s m at) (ltb (length s) at || inside_of s at) _ _ (λ x. tt) (λ x. scan_ahead)
-      go (Bad r) = tt
+      go : (c : Result ⊤ Refusal) → Ahead s m at (if_fine c (from_of s m at))
+      go (Ok tt) = by_cond (Ahead s m at) (ltb (length s) at || inside_of s at) _ _ (λ x. tt) (λ x. scan_ahead)
+      go (Err r) = tt

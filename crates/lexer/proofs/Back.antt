@@ -1,5 +1,5 @@
 -- Known tokens that can be told apart, spelled one behind the other, are heard as they are, in every mode.
-use Rattle.std.specs.Prelude.{ℕ, ◌≡◌, refl, Bool, true, false, not, ◌&&◌, List, [], ◌∷◌, ◌++◌}
+use Rattle.std.specs.Prelude.{ℕ, ◌≡◌, refl, Bool, true, false, not, ◌&&◌, List, [], ◌∷◌, ◌++◌, None, Ok}
 use Rattle.std.proofs.Common.{sym, ◌∙◌, ap, arith}
 use Rattle.std.proofs.lemmas.Bool.{false≢true}
 use Rattle.text.specs.Text.{within}
@@ -7,7 +7,6 @@ use Rattle.text.specs.Walk.{over, reach, one}
 use Rattle.text.specs.Runs.{ref_byte, run_byte}
 use Rattle.utf8.specs.Utf8.{decoded, front, white_of, white_width, past_white}
 use Rattle.mode.specs.declared.Mode.{Mode}
-use Rattle.lexer.specs.declared.Step.TheVariants.{Done}
 use Rattle.lexer.specs.Lex.{mark_of, scan_of}
 use Rattle.lexer.specs.Sign.{name, reference, unknown, exception, addition, plus, WITH, AND, OR, LP, RP, bad}
 use Rattle.lexer.specs.Spelling.{Spoken, heard, spell, spell_all}
@@ -108,12 +107,12 @@ heard_first m LP w h a f = heard_open m (spell_all w)
 heard_first m RP w h a f = heard_close m (spell_all w)
 heard_first m bad w h a f = absurd h
 
-scan_nothing : (m : Mode) → scan_of [] m 0 ≡ Done
+scan_nothing : (m : Mode) → scan_of [] m 0 ≡ (Ok None)
 unfolding scan_of past_white reach over mark_of
 scan_nothing m = refl
 
 -- what may follow something can be told apart
-follows_apart : (x : Spoken) (w : List Spoken) → Follows x w → Apart w
+pub follows_apart : (x : Spoken) (w : List Spoken) → Follows x w → Apart w
 follows_apart x [] f = tt
 follows_apart x (y ∷ w) f = f.1
 

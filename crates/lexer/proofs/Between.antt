@@ -1,5 +1,6 @@
 -- Tokens, and what the lexer refuses, start and end between characters. For the public step that needs no premise.
-use Rattle.std.specs.Prelude.{ℕ, ◌+◌, ◌<◌, ◌≤◌, ◌≡◌, ◌||◌, List, ltb, length, get_or}
+use Rattle.lexer.specs.Step.{Step}
+use Rattle.std.specs.Prelude.{ℕ, ◌+◌, ◌<◌, ◌≤◌, ◌≡◌, ◌||◌, List, ltb, length, get_or, Some, None, Result, Ok, Err, ⊤}
 use Rattle.std.proofs.Math.Path.{refl}
 use Rattle.std.proofs.Math.Decide.{dec_lt}
 use Rattle.std.proofs.Common.{arith, ltb-true, ltb-false}
@@ -13,10 +14,6 @@ use Rattle.refusal.specs.declared.Span.{Span}
 use Rattle.refusal.specs.declared.Refusal.{Refusal}
 use Rattle.refusal.specs.declared.Refusal.TheVariants.{NotUtf8, TooLong, InvalidCharacters, UnknownTerm, SeparatedPlus, Unexpected, UnopenedParens, UnclosedParens, Empty, DeprecatedLicenseId, GnuNoPlus, GnuPlusWithSuffix, UnknownLicense, TooManyLeaves, TooDeep, NoRoom, BadList, TooManyRequirements, RequirementsUnmet, BadCursor, NoBudget}
 use Rattle.mode.specs.declared.Mode.{Mode}
-use Rattle.lexer.specs.declared.Checked.{Checked}
-use Rattle.lexer.specs.declared.Checked.TheVariants.{Fine, Bad}
-use Rattle.lexer.specs.declared.Step.{Step}
-use Rattle.lexer.specs.declared.Step.TheVariants.{Got, Done, Refused}
 use Rattle.lexer.specs.Lex.{run_end, scan_of, check_of, from_of, if_fine, step_of}
 use Rattle.lexer.proofs.RunLaws.{run_le, run_all}
 use Rattle.lexer.proofs.Ahead.{Answer, ended, mark, word, invalid, unknown, apart, scan_answer}
@@ -55,14 +52,14 @@ Placed s NoBudget = Unit {0}
 
 -- a step's token is a piece of the text, and so is what it refuses
 abbrev pub Between : List ℕ → Step → Type 0
-Between s (Got t sp nx) = Piece s sp
-Between s Done = Unit {0}
-Between s (Refused r) = Placed s r
+Between s (Ok (Some g)) = Piece s g.span
+Between s (Ok None) = Unit {0}
+Between s (Err r) = Placed s r
 
 -- where the check's refusals lie
-abbrev pub BadPlaced : List ℕ → Checked → Type 0
-BadPlaced s Fine = Unit {0}
-BadPlaced s (Bad r) = Placed s r
+abbrev pub BadPlaced : List ℕ → Result ⊤ Refusal → Type 0
+BadPlaced s (Ok tt) = Unit {0}
+BadPlaced s (Err r) = Placed s r
 
 -- a text that may not be read is refused at a place of it, or as a whole
 pub check_placed : (s : List ℕ) → BadPlaced s (check_of s)
@@ -120,6 +117,6 @@ module _ (s : List ℕ) (m : Mode) (at : ℕ) where
   unfolding step_of
   step_between = go (check_of s) refl (check_placed s)
     where
-      go : (c : Checked) → check_of s ≡ c → BadPlaced s c → Between s (if_fine c (from_of s m at))
-      go Fine e b = from_between (fine_well s e)
-      go (Bad r) e b = b
+      go : (c : Result ⊤ Refusal) → check_of s ≡ c → BadPlaced s c → Between s (if_fine c (from_of s m at))
+      go (Ok tt) e b = from_between (fine_well s e)
+      go (Err r) e b = b

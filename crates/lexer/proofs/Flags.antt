@@ -1,17 +1,14 @@
 -- Which flags the lexer looks at: slash, imprecise and unknown. The two others, gnu_plus and deprecated, never change a token.
-use Rattle.std.specs.Prelude.{ℕ, suc, ◌+◌, ◌-◌, ◌≡◌, Bool, true, false, ◌&&◌, ◌||◌, List, eqb, leb, ltb, length, get_or}
+use Rattle.lexer.specs.declared.Token.{Token}
+use Rattle.refusal.specs.declared.Refusal.{Refusal}
+use Rattle.lexer.specs.Step.{Step}
+use Rattle.std.specs.Prelude.{ℕ, suc, ◌+◌, ◌-◌, ◌≡◌, Bool, true, false, ◌&&◌, ◌||◌, List, eqb, leb, ltb, length, get_or, Some, None, Result, Ok, Err, ⊤, Option}
 use Rattle.std.proofs.Math.Path.{refl}
 use Rattle.std.proofs.Common.{sym, ◌∙◌, ap}
 use Rattle.std.proofs.Math.Bool.{cond}
 use Rattle.utf8.specs.Utf8.{inside_of, past_white}
 use Rattle.mode.specs.declared.Mode.{Mode}
 use Rattle.lexer.specs.declared.Token.TheVariants.{Or}
-use Rattle.lexer.specs.declared.Word.{Word}
-use Rattle.lexer.specs.declared.Word.TheVariants.{Is, Not}
-use Rattle.lexer.specs.declared.Checked.{Checked}
-use Rattle.lexer.specs.declared.Checked.TheVariants.{Fine, Bad}
-use Rattle.lexer.specs.declared.Step.{Step}
-use Rattle.lexer.specs.declared.Step.TheVariants.{Got, Done, Refused}
 use Rattle.lexer.specs.Lex.{run_end, imprecise_at, unknown_of, word_of, got, told, run_of, mark_of, scan_of, check_of, from_of, if_fine, step_of}
 use Rattle.lexer.specs.Tokens.{Tokens, and_then, walked, tokens_of, steps_of}
 use Rattle.lexer.proofs.TokensLaws.{Next, walked_same}
@@ -24,9 +21,9 @@ pub record Alike (m n : Mode) : Type 0 where
 
 -- the same answer, with another mode in its next cursor
 abbrev pub remode : Mode → Step → Step
-remode n (Got t sp nx) = Got t sp (record { mode = n; at = nx.at })
-remode n Done = Done
-remode n (Refused r) = Refused r
+remode n (Ok (Some g)) = Ok (Some record { token = g.token; span = g.span; next = record { mode = n; at = g.next.at } })
+remode n (Ok None) = (Ok None)
+remode n (Err r) = Err r
 
 module _ (m n : Mode) (alike : Alike m n) where
   cond_remode : (b : Bool) (x y u v : Step) → u ≡ remode n x → v ≡ remode n y → cond b u v ≡ remode n (cond b x y)
@@ -39,9 +36,9 @@ module _ (m n : Mode) (alike : Alike m n) where
     unfolding word_of imprecise_at unknown_of
     word_flags p e = rw (alike.imprecise, alike.unknown)
 
-    told_remode : (p e : ℕ) (w : Word) → told n p e w ≡ remode n (told m p e w)
-    told_remode p e (Is t x) = refl
-    told_remode p e Not = refl
+    told_remode : (p e : ℕ) (w : Option (Token × ℕ)) → told n p e w ≡ remode n (told m p e w)
+    told_remode p e (Some (t, x)) = refl
+    told_remode p e None = refl
 
     run_flags : (p : ℕ) → run_of s n p ≡ remode n (run_of s m p)
     unfolding run_of
@@ -70,15 +67,15 @@ module _ (m n : Mode) (alike : Alike m n) where
     unfolding step_of from_of
     step_flags at = go (check_of s)
       where
-        go : (c : Checked) → if_fine c (from_of s n at) ≡ remode n (if_fine c (from_of s m at))
-        go Fine = cond_remode (ltb (length s) at || inside_of s at) _ _ _ _ refl (scan_flags at)
-        go (Bad r) = refl
+        go : (c : Result ⊤ Refusal) → if_fine c (from_of s n at) ≡ remode n (if_fine c (from_of s m at))
+        go (Ok tt) = cond_remode (ltb (length s) at || inside_of s at) _ _ _ _ refl (scan_flags at)
+        go (Err r) = refl
 
     -- a next cursor's mode is in no token
     then_remode : (st : Step) (go : ℕ → Tokens) → and_then st go ≡ and_then (remode n st) go
-    then_remode (Got t sp nx) go = refl
-    then_remode Done go = refl
-    then_remode (Refused r) go = refl
+    then_remode (Ok (Some g)) go = refl
+    then_remode (Ok None) go = refl
+    then_remode (Err r) go = refl
 
     walked_flags : (f g : ℕ → Step) → ((at : ℕ) → g at ≡ remode n (f at)) → (k at : ℕ) → walked f k at ≡ walked g k at
     walked_flags f g e k at =
@@ -86,9 +83,9 @@ module _ (m n : Mode) (alike : Alike m n) where
         (λ x q go. then_remode (f x) go ∙ ap (λ (st : Step). and_then st go) (sym (e x))) (λ x q. any (g x)) k at tt
       where
         any : (st : Step) → Next (λ x. Unit {0}) st
-        any (Got t sp nx) = tt
-        any Done = tt
-        any (Refused r) = tt
+        any (Ok (Some g)) = tt
+        any (Ok None) = tt
+        any (Err r) = tt
 
     -- so all tokens are the same
     pub tokens_flags : (at : ℕ) → tokens_of s m at ≡ tokens_of s n at

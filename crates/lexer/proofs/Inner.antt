@@ -1,6 +1,7 @@
 -- What the token of a step holds inside: a listed name's place is one of the list, and a reference's names stand in order inside the token,
 -- its own name at the end.
-use Rattle.std.specs.Prelude.{ℕ, ◌+◌, ◌<◌, ◌≤◌, ◌≡◌, refl, true, ◌&&◌, ◌||◌, List, leb, get_or, drop}
+use Rattle.lexer.specs.Step.{Step}
+use Rattle.std.specs.Prelude.{ℕ, ◌+◌, ◌<◌, ◌≤◌, ◌≡◌, refl, true, ◌&&◌, ◌||◌, List, leb, get_or, drop, Option, Some, None, Ok, Err}
 use native.Mathlib.Omega.{arith}
 use Rattle.std.proofs.Math.Dec.{eqb}
 use Rattle.std.proofs.Math.ListN.{length}
@@ -14,15 +15,10 @@ use Rattle.names.specs.Listed.{listed, exceptions}
 use Rattle.names.specs.Lookup.{licence_of, exception_of, imprecise_of}
 use Rattle.names.proofs.Laws.{LicenceIs, ExceptionIs, licence_is, exception_is}
 use Rattle.names.proofs.Fits.{LooseIs, imprecise_is}
-use Rattle.names.specs.declared.Found.{Found}
-use Rattle.names.specs.declared.Found.TheVariants.{At, Nothing}
 use Rattle.names.specs.declared.Loose.{Loose}
-use Rattle.names.specs.declared.Loose.TheVariants.{Hit, Miss}
 use Rattle.refusal.specs.Refused.{span}
 use Rattle.refusal.specs.declared.Span.{Span}
 use Rattle.mode.specs.declared.Mode.{Mode}
-use Rattle.lexer.specs.declared.Doc.{Doc}
-use Rattle.lexer.specs.declared.Doc.TheVariants.{Absent, Part}
 use Rattle.lexer.specs.declared.Token.{Token}
 use Rattle.lexer.specs.declared.Token.TheVariants.{
   And,
@@ -37,10 +33,6 @@ use Rattle.lexer.specs.declared.Token.TheVariants.{
   AdditionRef,
   Unknown,
 }
-use Rattle.lexer.specs.declared.Word.{Word}
-use Rattle.lexer.specs.declared.Word.TheVariants.{Is, Not}
-use Rattle.lexer.specs.declared.Step.{Step}
-use Rattle.lexer.specs.declared.Step.TheVariants.{Got, Done, Refused}
 use Rattle.lexer.specs.Lex.{
   run_end,
   ref_end,
@@ -67,12 +59,12 @@ pub record PartInside (q : Span) (a b : ℕ) : Type 0 where
   pub before : q.end < b
 
 -- so it does, if there is one
-abbrev pub DocInside : Doc → ℕ → ℕ → Type 0
-DocInside Absent a b = Unit {0}
-DocInside (Part q) a b = PartInside q a b
+abbrev pub DocInside : Option Span → ℕ → ℕ → Type 0
+DocInside None a b = Unit {0}
+DocInside (Some q) a b = PartInside q a b
 
 -- a reference with the document part d and the name n, whose token is sp
-pub record RefInside (d : Doc) (n sp : Span) : Type 0 where
+pub record RefInside (d : Option Span) (n sp : Span) : Type 0 where
   pub ends : n.end ≡ sp.end
   pub named : n.start ≤ n.end
   pub starts : sp.start ≤ n.start
@@ -94,19 +86,19 @@ Inside s (Unknown n) sp = n ≡ sp
 
 -- what a step's token holds inside
 abbrev pub InsideStep : List ℕ → Step → Type 0
-InsideStep s (Got t sp nx) = Inside s t sp
-InsideStep s Done = Unit {0}
-InsideStep s (Refused r) = Unit {0}
+InsideStep s (Ok (Some g)) = Inside s g.token g.span
+InsideStep s (Ok None) = Unit {0}
+InsideStep s (Err r) = Unit {0}
 
 -- what the token of a try from p on holds inside
-abbrev InsideWord : List ℕ → ℕ → Word → Type 0
-InsideWord s p (Is t x) = Inside s t (span p x)
-InsideWord s p Not = Unit {0}
+abbrev InsideWord : List ℕ → ℕ → Option (Token × ℕ) → Type 0
+InsideWord s p (Some (t, x)) = Inside s t (span p x)
+InsideWord s p None = Unit {0}
 
 -- what two tries in order say
-either_inside : (s : List ℕ) (p : ℕ) (v w : Word) → InsideWord s p v → InsideWord s p w → InsideWord s p (or_else v w)
-either_inside s p (Is t x) w f g = f
-either_inside s p Not w f g = g
+either_inside : (s : List ℕ) (p : ℕ) (v w : Option (Token × ℕ)) → InsideWord s p v → InsideWord s p w → InsideWord s p (or_else v w)
+either_inside s p (Some (t, x)) w f g = f
+either_inside s p None w f g = g
 
 -- the prefix of a document part is made of a reference's bytes, so the part's name does not end before it starts
 document_all : All ref_byte (ascii "DocumentRef-")
@@ -130,20 +122,20 @@ module _ (s : List ℕ) (m : Mode) (p : ℕ) where
   licence_inside : (r : List ℕ) (e : ℕ) → InsideWord s p (found Licence e (licence_of r))
   licence_inside r e = go (licence_of r) (licence_is r)
     where
-      go : (f : Found) → LicenceIs r f → InsideWord s p (found Licence e f)
-      go (At k) i = i.0
-      go Nothing i = tt
+      go : (f : Option ℕ) → LicenceIs r f → InsideWord s p (found Licence e f)
+      go (Some k) i = i.0
+      go None i = tt
 
   exception_inside : (r : List ℕ) (e : ℕ) → InsideWord s p (found Exception e (exception_of r))
   exception_inside r e = go (exception_of r) (exception_is r)
     where
-      go : (f : Found) → ExceptionIs r f → InsideWord s p (found Exception e f)
-      go (At k) i = i.0
-      go Nothing i = tt
+      go : (f : Option ℕ) → ExceptionIs r f → InsideWord s p (found Exception e f)
+      go (Some k) i = i.0
+      go None i = tt
 
   -- a reference at a place q, of either kind
-  module _ (kind : Doc → Span → Token) (w : List ℕ) (is : (d : Doc) (n sp : Span) → RefInside d n sp → Inside s (kind d n) sp) where
-    ref_inside : (d : Doc) (q : ℕ) → p ≤ q → DocInside d p (q + length w) → InsideWord s p (ref_of kind w d s q)
+  module _ (kind : Option Span → Span → Token) (w : List ℕ) (is : (d : Option Span) (n sp : Span) → RefInside d n sp → Inside s (kind d n) sp) where
+    ref_inside : (d : Option Span) (q : ℕ) → p ≤ q → DocInside d p (q + length w) → InsideWord s p (ref_of kind w d s q)
     unfolding ref_of
     ref_inside d q h i =
         by_cond (InsideWord s p) (begins w (drop q s)) _ _
@@ -157,7 +149,7 @@ module _ (s : List ℕ) (m : Mode) (p : ℕ) where
         by_cond (InsideWord s p) (begins (ascii "DocumentRef-") (drop p s) && eqb (get_or s (ref_end s p) 0) 0x3A) _ _
         (λ x. let y = both (begins (ascii "DocumentRef-") (drop p s)) (eqb (get_or s (ref_end s p) 0) 0x3A) x in
         let g = document_ge s p y.0 in
-        ref_inside (Part (span (p + 12) (ref_end s p))) (ref_end s p + 1) (omega arith)
+        ref_inside (Some (span (p + 12) (ref_end s p))) (ref_end s p + 1) (omega arith)
         (record { starts = omega arith; named = g; before = omega arith }))
         (λ x. tt)
 
@@ -166,9 +158,9 @@ module _ (s : List ℕ) (m : Mode) (p : ℕ) where
   imprecise_inside =
       by_cond (InsideWord s p) m.imprecise _ _ (λ x. go (imprecise_of (drop p s)) (imprecise_is (drop p s))) (λ x. tt)
     where
-      go : (l : Loose) → LooseIs (drop p s) l → InsideWord s p (hit p l)
-      go (Hit k n) i = i.known
-      go Miss i = tt
+      go : (l : Option Loose) → LooseIs (drop p s) l → InsideWord s p (hit p l)
+      go (Some x) i = i.known
+      go None i = tt
 
   unknown_inside : (e : ℕ) → InsideWord s p (unknown_of m p e)
   unfolding unknown_of
@@ -183,12 +175,12 @@ module _ (s : List ℕ) (m : Mode) (p : ℕ) where
       (either_inside s p (found Exception e (exception_of r)) _ (exception_inside r e)
       (either_inside s p (documented LicenseRef (ascii "LicenseRef-") s p) _
       (documented_inside LicenseRef (ascii "LicenseRef-") (λ d n sp h. h))
-      (either_inside s p (ref_of LicenseRef (ascii "LicenseRef-") Absent s p) _
-      (ref_inside LicenseRef (ascii "LicenseRef-") (λ d n sp h. h) Absent p (omega arith) tt)
+      (either_inside s p (ref_of LicenseRef (ascii "LicenseRef-") None s p) _
+      (ref_inside LicenseRef (ascii "LicenseRef-") (λ d n sp h. h) None p (omega arith) tt)
       (either_inside s p (documented AdditionRef (ascii "AdditionRef-") s p) _
       (documented_inside AdditionRef (ascii "AdditionRef-") (λ d n sp h. h))
-      (either_inside s p (ref_of AdditionRef (ascii "AdditionRef-") Absent s p) _
-      (ref_inside AdditionRef (ascii "AdditionRef-") (λ d n sp h. h) Absent p (omega arith) tt)
+      (either_inside s p (ref_of AdditionRef (ascii "AdditionRef-") None s p) _
+      (ref_inside AdditionRef (ascii "AdditionRef-") (λ d n sp h. h) None p (omega arith) tt)
       (either_inside s p (imprecise_at s m p) (unknown_of m p e) imprecise_inside (unknown_inside e))))))))
 
   run_inside : InsideStep s (run_of s m p)
@@ -197,9 +189,9 @@ module _ (s : List ℕ) (m : Mode) (p : ℕ) where
       by_cond (InsideStep s) (eqb (run_end s p) p) _ _ (λ x. tt)
       (λ x. go (word_of s m p (run_end s p)) (word_inside (run_end s p)))
     where
-      go : (w : Word) → InsideWord s p w → InsideStep s (told m p (run_end s p) w)
-      go (Is t x) i = i
-      go Not i = tt
+      go : (w : Option (Token × ℕ)) → InsideWord s p w → InsideStep s (told m p (run_end s p) w)
+      go (Some (t, x)) i = i
+      go None i = tt
 
   mark_inside : (at : ℕ) → InsideStep s (mark_of s m at p)
   unfolding mark_of

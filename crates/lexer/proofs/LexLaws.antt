@@ -1,61 +1,109 @@
 -- What the code of a step needs of its definitions.
-use Rattle.std.specs.Prelude.{ℕ, ◌+◌, ◌<◌, ◌≤◌, ◌≡◌, Bool, true, false, cond, ◌&&◌, ◌||◌, List, length, get_or, drop, eqb, ltb}
-use Rattle.std.proofs.Common.{sym, ◌∙◌, arith}
+use Rattle.std.specs.Prelude.{ℕ, ◌+◌, ◌<◌, ◌≤◌, ◌≡◌, Bool, true, false, cond, ◌&&◌, ◌||◌, List, length, get_or, drop, eqb, ltb, Option, Some, None, Ok, Err}
+use Rattle.std.proofs.Common.{sym, ap, ◌∙◌, arith}
+use Rattle.std.specs.Option.{MatchOption}
+use Rattle.std.specs.Int.{from_bool}
 use borrow.Author.Tests.{eqb-true, eq-eqb, ne_eqb, le-leb, lt-leb}
 use Rattle.text.specs.Text.{ascii, begins, same}
 use Rattle.text.specs.Tests.{both, by_cond, cond_true, cond_false}
-use Rattle.text.specs.TextLaws.{byte_in}
+use Rattle.text.specs.TextLaws.{byte_in, same_not}
+use Rattle.text.specs.Walk.{one}
+use Rattle.text.specs.WalkLaws.{one_at}
 use Rattle.utf8.specs.Utf8.{inside_of}
 use Rattle.refusal.specs.Refused.{span}
 use Rattle.refusal.specs.declared.Span.{Span}
 use Rattle.refusal.specs.declared.Refusal.TheVariants.{SeparatedPlus, BadCursor}
 use Rattle.mode.specs.declared.Mode.{Mode}
-use Rattle.lexer.specs.declared.Doc.{Doc}
-use Rattle.lexer.specs.declared.Doc.TheVariants.{Absent, Part}
 use Rattle.lexer.specs.declared.Token.{Token}
-use Rattle.lexer.specs.declared.Token.TheVariants.{And, Or, With, Plus, Open, Close}
-use Rattle.lexer.specs.declared.Word.{Word}
-use Rattle.lexer.specs.declared.Word.TheVariants.{Is, Not}
-use Rattle.lexer.specs.declared.Step.TheVariants.{Done, Refused}
+use Rattle.lexer.specs.declared.Token.TheVariants.{Or, Plus, Open, Close}
 use Rattle.lexer.specs.Lex.{ref_end, or_else, operator_of, got, run_of, mark_of, scan_of, from_of}
 use Rattle.lexer.specs.Shape.{document_of}
 
--- the operators, by what the comparisons say
+-- the operators, by a run's length and its first byte
 module _ (r : List ℕ) (e : ℕ) where
-  abbrev spelt : List ℕ → List ℕ → Bool
-  spelt v w = same r v || same r w
+  unlike : (w : List ℕ) → (length r ≡ length w → ⊥) → same r w ≡ false
+  unlike w n = same_not r w (λ q. n (ap length q))
 
-  pub operator_and : spelt (ascii "AND") (ascii "and") ≡ true → Is And e ≡ operator_of r e
+  astray : (w : List ℕ) → (get_or r 0 0 ≡ get_or w 0 0 → ⊥) → same r w ≡ false
+  astray w n = same_not r w (λ q. n (ap (λ (l : List ℕ). get_or l 0 0) q))
+
+  pub operator_short : length r < 2 → None ≡ operator_of r e
   unfolding operator_of
-  operator_and x = simp x
+  operator_short h =
+      simp (
+        unlike (ascii "AND") (λ q. omega arith),
+        unlike (ascii "and") (λ q. omega arith),
+        unlike (ascii "OR") (λ q. omega arith),
+        unlike (ascii "or") (λ q. omega arith),
+        unlike (ascii "WITH") (λ q. omega arith),
+        unlike (ascii "with") (λ q. omega arith),
+      )
 
-  pub operator_or : spelt (ascii "AND") (ascii "and") ≡ false → spelt (ascii "OR") (ascii "or") ≡ true → Is Or e ≡ operator_of r e
+  pub operator_long : 5 ≤ length r → None ≡ operator_of r e
   unfolding operator_of
-  operator_or x y = simp (x, y)
+  operator_long h =
+      simp (
+        unlike (ascii "AND") (λ q. omega arith),
+        unlike (ascii "and") (λ q. omega arith),
+        unlike (ascii "OR") (λ q. omega arith),
+        unlike (ascii "or") (λ q. omega arith),
+        unlike (ascii "WITH") (λ q. omega arith),
+        unlike (ascii "with") (λ q. omega arith),
+      )
 
-  pub operator_with : spelt (ascii "AND") (ascii "and") ≡ false → spelt (ascii "OR") (ascii "or") ≡ false
-      → spelt (ascii "WITH") (ascii "with") ≡ true → Is With e ≡ operator_of r e
+  pub operator_two : 2 ≤ length r → length r < 3 → (get_or r 0 0 ≡ 0x4F → ⊥) → (get_or r 0 0 ≡ 0x6F → ⊥) → None ≡ operator_of r e
   unfolding operator_of
-  operator_with x y z = simp (x, y, z)
+  operator_two h k n m =
+      simp (
+        unlike (ascii "AND") (λ q. omega arith),
+        unlike (ascii "and") (λ q. omega arith),
+        astray (ascii "OR") n,
+        astray (ascii "or") m,
+        unlike (ascii "WITH") (λ q. omega arith),
+        unlike (ascii "with") (λ q. omega arith),
+      )
 
-  pub operator_not : spelt (ascii "AND") (ascii "and") ≡ false → spelt (ascii "OR") (ascii "or") ≡ false
-      → spelt (ascii "WITH") (ascii "with") ≡ false → Not ≡ operator_of r e
+  pub operator_three : 3 ≤ length r → length r < 4 → (get_or r 0 0 ≡ 0x41 → ⊥) → (get_or r 0 0 ≡ 0x61 → ⊥) → None ≡ operator_of r e
   unfolding operator_of
-  operator_not x y z = simp (x, y, z)
+  operator_three h k n m =
+      simp (
+        astray (ascii "AND") n,
+        astray (ascii "and") m,
+        unlike (ascii "OR") (λ q. omega arith),
+        unlike (ascii "or") (λ q. omega arith),
+        unlike (ascii "WITH") (λ q. omega arith),
+        unlike (ascii "with") (λ q. omega arith),
+      )
 
--- a function that tries a, and then b where a says nothing
-pub or_is : (w a b : Word) (t : Token) (e : ℕ) → w ≡ a → w ≡ Is t e → w ≡ or_else a b
-or_is w a b t e p q = simp (← p, q)
+  pub operator_four : 4 ≤ length r → length r < 5 → (get_or r 0 0 ≡ 0x57 → ⊥) → (get_or r 0 0 ≡ 0x77 → ⊥) → None ≡ operator_of r e
+  unfolding operator_of
+  operator_four h k n m =
+      simp (
+        unlike (ascii "AND") (λ q. omega arith),
+        unlike (ascii "and") (λ q. omega arith),
+        unlike (ascii "OR") (λ q. omega arith),
+        unlike (ascii "or") (λ q. omega arith),
+        astray (ascii "WITH") n,
+        astray (ascii "with") m,
+      )
 
-pub or_not : (w a b z : Word) → w ≡ a → w ≡ Not → z ≡ b → z ≡ or_else a b
-or_not w a b z p q r = simp (← p, q) r
+-- a function that tries a, and then b where a says nothing: `said` is what the second try is known to answer
+pub or_said : {P : Type 0} (w : Option (Token × ℕ)) (a b z : Option (Token × ℕ)) → w ≡ a → (P → z ≡ b)
+    → MatchOption w P (λ (x : Token × ℕ). z ≡ Some x) → z ≡ or_else a b
+or_said (Some x) a b z p said q = simp (← p, q)
+or_said None a b z p said q = simp (← p) (said q)
+
+-- the width of a step over one byte, where r is what p says of the byte
+pub width_said : (p : ℕ → Bool) → p 0 ≡ false → (s : List ℕ) (at : ℕ) (r : Bool) → r ≡ p (get_or s at 0) → from_bool r ≡ one p (drop at s)
+width_said p z s at true q = sym (one_at p z s at ∙ cond_true _ 1 0 (sym q))
+width_said p z s at false q = sym (one_at p z s at ∙ cond_false _ 1 0 (sym q))
 
 -- what stands at p, where the white space from `at` on ends
 module _ (s : List ℕ) (m : Mode) (at p : ℕ) where
   abbrev Here : ℕ → Type 0
   Here b = get_or s p 0 ≡ b
 
-  pub mark_done : length s ≤ p → Done ≡ mark_of s m at p
+  pub mark_done : length s ≤ p → (Ok None) ≡ mark_of s m at p
   unfolding mark_of
   mark_done h = simp (le-leb (length s) p h)
 
@@ -63,7 +111,7 @@ module _ (s : List ℕ) (m : Mode) (at p : ℕ) where
   unfolding mark_of
   mark_plus h b e = simp (lt-leb (length s) p h, b, eq-eqb p at e)
 
-  pub mark_apart : p < length s → Here 0x2B → (p ≡ at → ⊥) → Refused (SeparatedPlus (span at p)) ≡ mark_of s m at p
+  pub mark_apart : p < length s → Here 0x2B → (p ≡ at → ⊥) → Err (SeparatedPlus (span at p)) ≡ mark_of s m at p
   unfolding mark_of
   mark_apart h b e = simp (lt-leb (length s) p h, b, ne_eqb p at e)
 
@@ -90,7 +138,7 @@ module _ (s : List ℕ) (m : Mode) (at p : ℕ) where
 
 -- the step from any place, by whether it is one between two characters: x says if it is inside a character
 module _ (s : List ℕ) (m : Mode) (at : ℕ) (x : Bool) (inside : x ≡ inside_of s at) where
-  pub from_out : (ltb (length s) at || x) ≡ true → Refused (BadCursor at) ≡ from_of s m at
+  pub from_out : (ltb (length s) at || x) ≡ true → Err (BadCursor at) ≡ from_of s m at
   unfolding from_of
   from_out e = simp (← inside, e)
 
@@ -99,9 +147,9 @@ module _ (s : List ℕ) (m : Mode) (at : ℕ) (x : Bool) (inside : x ≡ inside_
   from_in e = simp (← inside, e)
 
 -- a document part ends inside the text, at its `:`
-abbrev DocIn : List ℕ → Doc → Type 0
-DocIn s Absent = Unit {0}
-DocIn s (Part d) = d.end < length s
+abbrev DocIn : List ℕ → Option Span → Type 0
+DocIn s None = Unit {0}
+DocIn s (Some d) = d.end < length s
 
 doc_in : (s : List ℕ) (p : ℕ) → DocIn s (document_of s p)
 unfolding document_of
@@ -110,5 +158,5 @@ doc_in s p =
     (λ e. byte_in s (ref_end s p) 0x3A (eqb-true _ _ (both (begins (ascii "DocumentRef-") (drop p s)) _ e).1) (omega arith))
     (λ e. tt)
 
-pub document_in : (s : List ℕ) (p : ℕ) (d : Span) → document_of s p ≡ Part d → d.end < length s
+pub document_in : (s : List ℕ) (p : ℕ) (d : Span) → document_of s p ≡ Some d → d.end < length s
 document_in s p d e = rw e at (doc_in s p)

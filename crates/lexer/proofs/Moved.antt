@@ -1,11 +1,11 @@
 -- The lexer does not care where it stands: a step from a place on is the step from 0 in the text from there on, with its places moved. So a text
 -- is heard token by token, each at the front of what is left.
+use Rattle.lexer.specs.Step.{Step}
 use Prim.Native.Nat.{ℕ, zero, suc, ◌+◌, ◌-◌, ◌≤◌}
-use Rattle.std.specs.Prelude.{◌≡◌, Bool, true, false, cond, ◌&&◌, ◌||◌, leb, get_or, drop}
+use Rattle.std.specs.Prelude.{◌≡◌, Bool, true, false, cond, ◌&&◌, ◌||◌, leb, get_or, drop, Option, Some, None, Ok, Err}
 use Rattle.std.proofs.Math.Path.{refl, ap}
 use Rattle.std.proofs.Common.{sym, ◌∙◌, subst, add-zero, length-drop, drop-drop, get_or-drop, le-leb, leb-true, leb-false, eq-eqb, ne_eqb, eqb-true}
 use mathlib.Core.List.{List, [], ◌∷◌}
-use Rattle.std.proofs.Math.Option.{some}
 use native.Mathlib.Omega.{arith}
 use Rattle.std.proofs.Math.Dec.{eqb}
 use Rattle.std.proofs.Math.ListN.{length}
@@ -15,17 +15,12 @@ use Rattle.text.specs.Walk.{over, reach, one}
 use Rattle.text.specs.Runs.{ref_byte, run_byte}
 use Rattle.utf8.specs.Utf8.{past_white, white_width}
 use Rattle.names.specs.Lookup.{licence_of, exception_of, imprecise_of}
-use Rattle.names.specs.declared.Found.{Found}
-use Rattle.names.specs.declared.Found.TheVariants.{At, Nothing}
 use Rattle.names.specs.declared.Loose.{Loose}
-use Rattle.names.specs.declared.Loose.TheVariants.{Hit, Miss}
 use Rattle.refusal.specs.Refused.{span}
 use Rattle.refusal.specs.declared.Span.{Span}
 use Rattle.refusal.specs.declared.Refusal.{Refusal}
 use Rattle.refusal.specs.declared.Refusal.TheVariants as R
 use Rattle.mode.specs.declared.Mode.{Mode}
-use Rattle.lexer.specs.declared.Doc.{Doc}
-use Rattle.lexer.specs.declared.Doc.TheVariants.{Absent, Part}
 use Rattle.lexer.specs.declared.Token.{Token}
 use Rattle.lexer.specs.declared.Token.TheVariants.{
   And,
@@ -40,10 +35,6 @@ use Rattle.lexer.specs.declared.Token.TheVariants.{
   AdditionRef,
   Unknown,
 }
-use Rattle.lexer.specs.declared.Word.{Word}
-use Rattle.lexer.specs.declared.Word.TheVariants.{Is, Not}
-use Rattle.lexer.specs.declared.Step.{Step}
-use Rattle.lexer.specs.declared.Step.TheVariants.{Got, Done, Refused}
 use Rattle.lexer.specs.Lex.{
   run_end,
   ref_end,
@@ -71,9 +62,9 @@ use Rattle.lexer.proofs.TokensLaws.{tokens_step}
 abbrev pub move_span : ℕ → Span → Span
 move_span k a = span (k + a.start) (k + a.end)
 
-abbrev pub move_doc : ℕ → Doc → Doc
-move_doc k Absent = Absent
-move_doc k (Part d) = Part (move_span k d)
+abbrev pub move_doc : ℕ → Option Span → Option Span
+move_doc k None = None
+move_doc k (Some d) = Some (move_span k d)
 
 abbrev pub move_token : ℕ → Token → Token
 move_token k And = And
@@ -113,14 +104,14 @@ move_refusal k (R.BadCursor n) = R.BadCursor n
 move_refusal k R.NoBudget = R.NoBudget
 
 abbrev pub move_step : ℕ → Step → Step
-move_step k (Got t a nx) = Got (move_token k t) (move_span k a) (record { mode = nx.mode; at = k + nx.at })
-move_step k Done = Done
-move_step k (Refused r) = Refused (move_refusal k r)
+move_step k (Ok (Some g)) = Ok (Some record { token = move_token k g.token; span = move_span k g.span; next = record { mode = g.next.mode; at = k + g.next.at } })
+move_step k (Ok None) = (Ok None)
+move_step k (Err r) = Err (move_refusal k r)
 
 -- what a try says
-abbrev pub move_word : ℕ → Word → Word
-move_word k (Is t e) = Is (move_token k t) (k + e)
-move_word k Not = Not
+abbrev pub move_word : ℕ → Option (Token × ℕ) → Option (Token × ℕ)
+move_word k (Some (t, e)) = Some (move_token k t, k + e)
+move_word k None = None
 
 abbrev pub move_tokens : ℕ → Tokens → Tokens
 move_tokens k done = done
@@ -133,9 +124,9 @@ cond_move f b true x y u v e g h = ap (λ (q : Bool). cond q u v) e ∙ g
 cond_move f b false x y u v e g h = ap (λ (q : Bool). cond q u v) e ∙ h
 
 -- two tries in order
-either_move : (k : ℕ) (v w x y : Word) → x ≡ move_word k v → y ≡ move_word k w → or_else x y ≡ move_word k (or_else v w)
-either_move k (Is t e) w x y g h = ap (λ (z : Word). or_else z y) g
-either_move k Not w x y g h = ap (λ (z : Word). or_else z y) g ∙ h
+either_move : (k : ℕ) (v w x y : Option (Token × ℕ)) → x ≡ move_word k v → y ≡ move_word k w → or_else x y ≡ move_word k (or_else v w)
+either_move k (Some (t, e)) w x y g h = ap (λ (z : Option (Token × ℕ)). or_else z y) g
+either_move k None w x y g h = ap (λ (z : Option (Token × ℕ)). or_else z y) g ∙ h
 
 assoc : (a b c : ℕ) → a + b + c ≡ a + (b + c)
 assoc a b c = omega arith
@@ -181,18 +172,18 @@ module _ (k : ℕ) (s : List ℕ) where
       (cond_move (move_word k) (same r (ascii "OR") || same r (ascii "or")) _ _ _ _ _ refl refl
       (cond_move (move_word k) (same r (ascii "WITH") || same r (ascii "with")) _ _ _ _ _ refl refl refl))
 
-  licence_move : (e : ℕ) (f : Found) → found Licence (k + e) f ≡ move_word k (found Licence e f)
-  licence_move e (At i) = refl
-  licence_move e Nothing = refl
+  licence_move : (e : ℕ) (f : Option ℕ) → found Licence (k + e) f ≡ move_word k (found Licence e f)
+  licence_move e (Some i) = refl
+  licence_move e None = refl
 
-  exception_move : (e : ℕ) (f : Found) → found Exception (k + e) f ≡ move_word k (found Exception e f)
-  exception_move e (At i) = refl
-  exception_move e Nothing = refl
+  exception_move : (e : ℕ) (f : Option ℕ) → found Exception (k + e) f ≡ move_word k (found Exception e f)
+  exception_move e (Some i) = refl
+  exception_move e None = refl
 
   -- a reference of either kind
-  module _ (kind : Doc → Span → Token) (w : List ℕ)
-      (is : (d : Doc) (n : Span) → kind (move_doc k d) (move_span k n) ≡ move_token k (kind d n)) where
-    ref_move : (d : Doc) (q : ℕ) → ref_of kind w (move_doc k d) s (k + q) ≡ move_word k (ref_of kind w d rest q)
+  module _ (kind : Option Span → Span → Token) (w : List ℕ)
+      (is : (d : Option Span) (n : Span) → kind (move_doc k d) (move_span k n) ≡ move_token k (kind d n)) where
+    ref_move : (d : Option Span) (q : ℕ) → ref_of kind w (move_doc k d) s (k + q) ≡ move_word k (ref_of kind w d rest q)
     unfolding ref_of
     ref_move d q =
         cond_move (move_word k) (begins w (drop (k + q) s)) (begins w (drop q rest)) _ _ _ _
@@ -202,8 +193,8 @@ module _ (k : ℕ) (s : List ℕ) where
         ends = ap (ref_end s) (assoc k q (length w)) ∙ ref_end_move (q + length w)
 
         named : (a e : ℕ) → a ≡ k + (q + length w) → e ≡ k + ref_end rest (q + length w)
-            → Is (kind (move_doc k d) (span a e)) e
-            ≡ move_word k (Is (kind d (span (q + length w) (ref_end rest (q + length w)))) (ref_end rest (q + length w)))
+            → Some (kind (move_doc k d) (span a e), e)
+            ≡ move_word k (Some (kind d (span (q + length w) (ref_end rest (q + length w))), ref_end rest (q + length w)))
         named a e f g = let h = is d (span (q + length w) (ref_end rest (q + length w))) in cc
 
     documented_move : (p : ℕ) → documented kind w s (k + p) ≡ move_word k (documented kind w rest p)
@@ -216,10 +207,10 @@ module _ (k : ℕ) (s : List ℕ) where
             ≡ (begins (ascii "DocumentRef-") (drop p rest) && eqb (get_or rest (ref_end rest p) 0) 0x3A)
         test = rw (drop_move p, ref_end_move p, get_move (ref_end rest p))
 
-        behind : (e : ℕ) → e ≡ k + ref_end rest p → ref_of kind w (Part (span (k + p + 12) e)) s (e + 1)
-            ≡ move_word k (ref_of kind w (Part (span (p + 12) (ref_end rest p))) rest (ref_end rest p + 1))
+        behind : (e : ℕ) → e ≡ k + ref_end rest p → ref_of kind w (Some (span (k + p + 12) e)) s (e + 1)
+            ≡ move_word k (ref_of kind w (Some (span (p + 12) (ref_end rest p))) rest (ref_end rest p + 1))
         behind e h =
-            rw (h, assoc k p 12, assoc k (ref_end rest p) 1) (ref_move (Part (span (p + 12) (ref_end rest p))) (ref_end rest p + 1))
+            rw (h, assoc k p 12, assoc k (ref_end rest p) 1) (ref_move (Some (span (p + 12) (ref_end rest p))) (ref_end rest p + 1))
 
   module _ (m : Mode) where
     imprecise_move : (p : ℕ) → imprecise_at s m (k + p) ≡ move_word k (imprecise_at rest m p)
@@ -228,9 +219,9 @@ module _ (k : ℕ) (s : List ℕ) where
         cond_move (move_word k) m.imprecise _ _ _ _ _ refl
         (ap (λ (x : List ℕ). hit (k + p) (imprecise_of x)) (drop_move p) ∙ go (imprecise_of (drop p rest))) refl
       where
-        go : (l : Loose) → hit (k + p) l ≡ move_word k (hit p l)
-        go (Hit i n) = ap (Is (Licence i)) (assoc k p n)
-        go Miss = refl
+        go : (l : Option Loose) → hit (k + p) l ≡ move_word k (hit p l)
+        go (Some x) = ap (λ (e : ℕ). Some (Licence x.licence, e)) (assoc k p x.len)
+        go None = refl
 
     unknown_move : (p e : ℕ) → unknown_of m (k + p) (k + e) ≡ move_word k (unknown_of m p e)
     unfolding unknown_of
@@ -248,12 +239,12 @@ module _ (k : ℕ) (s : List ℕ) where
         (ap (λ (x : List ℕ). found Exception (k + e) (exception_of x)) b ∙ exception_move e (exception_of r))
         (either_move k (documented LicenseRef (ascii "LicenseRef-") rest p) _ _ _
         (documented_move LicenseRef (ascii "LicenseRef-") (λ d n. refl) p)
-        (either_move k (ref_of LicenseRef (ascii "LicenseRef-") Absent rest p) _ _ _
-        (ref_move LicenseRef (ascii "LicenseRef-") (λ d n. refl) Absent p)
+        (either_move k (ref_of LicenseRef (ascii "LicenseRef-") None rest p) _ _ _
+        (ref_move LicenseRef (ascii "LicenseRef-") (λ d n. refl) None p)
         (either_move k (documented AdditionRef (ascii "AdditionRef-") rest p) _ _ _
         (documented_move AdditionRef (ascii "AdditionRef-") (λ d n. refl) p)
-        (either_move k (ref_of AdditionRef (ascii "AdditionRef-") Absent rest p) _ _ _
-        (ref_move AdditionRef (ascii "AdditionRef-") (λ d n. refl) Absent p)
+        (either_move k (ref_of AdditionRef (ascii "AdditionRef-") None rest p) _ _ _
+        (ref_move AdditionRef (ascii "AdditionRef-") (λ d n. refl) None p)
         (either_move k (imprecise_at rest m p) (unknown_of m p e) _ _ (imprecise_move p) (unknown_move p e))))))))
 
     module _ (inside : k ≤ length s) where
@@ -265,14 +256,14 @@ module _ (k : ℕ) (s : List ℕ) where
       run_move p =
           cond_move (move_step k) _ (eqb (run_end rest p) p) _ _ _ _
           (ap (λ (x : ℕ). eqb x (k + p)) (run_end_move p) ∙ eqb_move (run_end rest p) p)
-          (ap (λ (x : ℕ). Refused (R.InvalidCharacters (span (k + p) x))) length_move)
+          (ap (λ (x : ℕ). Err (R.InvalidCharacters (span (k + p) x))) length_move)
           (ap (λ (x : ℕ). told m (k + p) x (word_of s m (k + p) x)) (run_end_move p)
           ∙ ap (told m (k + p) (k + run_end rest p)) (word_move p (run_end rest p))
           ∙ go (word_of rest m p (run_end rest p)))
         where
-          go : (w : Word) → told m (k + p) (k + run_end rest p) (move_word k w) ≡ move_step k (told m p (run_end rest p) w)
-          go (Is t x) = refl
-          go Not = refl
+          go : (w : Option (Token × ℕ)) → told m (k + p) (k + run_end rest p) (move_word k w) ≡ move_step k (told m p (run_end rest p) w)
+          go (Some (t, x)) = refl
+          go None = refl
 
       end_move : (p : ℕ) → leb (length s) (k + p) ≡ leb (length rest) p
       end_move p = go (leb (length rest) p) refl
@@ -311,9 +302,9 @@ module _ (k : ℕ) (s : List ℕ) where
         where
           go : ((x : ℕ) → walked (scan_of s m) n (k + x) ≡ move_tokens k (walked (scan_of rest m) n x)) → (st : Step)
               → and_then (move_step k st) (walked (scan_of s m) n) ≡ move_tokens k (and_then st (walked (scan_of rest m) n))
-          go ih (Got t a nx) = ap (token (move_token k t) (move_span k a)) (ih nx.at)
-          go ih Done = refl
-          go ih (Refused r) = refl
+          go ih (Ok (Some g)) = ap (token (move_token k g.token) (move_span k g.span)) (ih g.next.at)
+          go ih (Ok None) = refl
+          go ih (Err r) = refl
 
       -- so are all tokens
       pub tokens_move : (at : ℕ) → tokens_of s m (k + at) ≡ move_tokens k (tokens_of (drop k s) m at)
@@ -326,9 +317,9 @@ module _ (k : ℕ) (s : List ℕ) where
   bytes_move : (a : Span) → bytes_of s (move_span k a) ≡ bytes_of rest a
   bytes_move a = part_move a.start a.end
 
-  doc_move : (d : Doc) → doc_bytes s (move_doc k d) ≡ doc_bytes rest d
-  doc_move Absent = refl
-  doc_move (Part d) = ap some (bytes_move d)
+  doc_move : (d : Option Span) → doc_bytes s (move_doc k d) ≡ doc_bytes rest d
+  doc_move None = refl
+  doc_move (Some d) = ap Some (bytes_move d)
 
   pub said_move : (t : Token) → said s (move_token k t) ≡ said (drop k s) t
   said_move And = refl
@@ -372,8 +363,8 @@ module _ (s : List ℕ) (m : Mode) where
       inside i = i.inside
 
   -- nothing but white space
-  pub heard_end : scan_of s m 0 ≡ Done → heard s m 0 ≡ []
-  heard_end h = first_step Done h
+  pub heard_end : scan_of s m 0 ≡ (Ok None) → heard s m 0 ≡ []
+  heard_end h = first_step (Ok None) h
 
   -- a place from which the step is the same
   pub heard_skip : (k : ℕ) → k ≤ length s → scan_of s m 0 ≡ scan_of s m k → heard s m 0 ≡ heard (drop k s) m 0

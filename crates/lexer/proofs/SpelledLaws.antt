@@ -1,8 +1,7 @@
 -- A token that is spelled is heard, and what stands behind it is heard next, in every mode.
-use Rattle.std.specs.Prelude.{ℕ, suc, ◌+◌, ◌-◌, ◌<◌, ◌≤◌, ◌≡◌, Bool, true, false, cond, ◌&&◌, ◌||◌, List, [], ◌∷◌, ◌++◌, eqb, get_or, drop}
+use Rattle.std.specs.Prelude.{ℕ, suc, ◌+◌, ◌-◌, ◌<◌, ◌≤◌, ◌≡◌, Bool, true, false, cond, ◌&&◌, ◌||◌, List, [], ◌∷◌, ◌++◌, eqb, get_or, drop, Some, None, Option}
 use Rattle.std.proofs.Math.Path.{refl, sym, ap}
 use Rattle.std.proofs.Common.{◌∙◌, true≢false, inl, inr, append_assoc, length-append, drop-drop, ne_eqb}
-use Rattle.std.proofs.Math.Option.{Option, none, some}
 use Rattle.std.proofs.Math.Decide.{dec_lt}
 use native.Mathlib.Omega.{arith}
 use Rattle.std.proofs.Math.ListN.{length, take}
@@ -33,12 +32,8 @@ use Rattle.names.proofs.Laws.{
 use Rattle.refusal.specs.Refused.{span}
 use Rattle.refusal.specs.declared.Span.{Span}
 use Rattle.mode.specs.declared.Mode.{Mode}
-use Rattle.lexer.specs.declared.Doc.{Doc}
-use Rattle.lexer.specs.declared.Doc.TheVariants.{Absent, Part}
 use Rattle.lexer.specs.declared.Token.{Token}
 use Rattle.lexer.specs.declared.Token.TheVariants.{And, Or, With, Plus, Open, Close, Licence, Exception, LicenseRef, AdditionRef}
-use Rattle.lexer.specs.declared.Word.{Word}
-use Rattle.lexer.specs.declared.Word.TheVariants.{Is, Not}
 use Rattle.lexer.specs.Lex.{run_end, ref_end, or_else, operator_of, ref_of, word_of, got, told, run_of, mark_of, scan_of}
 use Rattle.lexer.specs.Shape.{listed_of, named_of, document_of, ref_at, behind, referred_of, loose_of, other_of, grouped}
 use Rattle.lexer.proofs.LexLaws.{mark_plus, mark_open, mark_close, mark_run}
@@ -51,7 +46,7 @@ use Rattle.lexer.proofs.Moved.{heard_say, heard_skip}
 no_white : (b : ℕ) (t : List ℕ) → 0x21 ≤ b → b ≤ 0x7F → white_width (b ∷ t) ≡ 0
 unfolding front
 no_white b t h k =
-    sym (white_not (record { code = b; width = 1 }) (b ∷ t) (sym (decoded_ascii b _ _ _ k))
+    sym (white_not (record { code = b; width = 1 }) (b ∷ t) (decoded_ascii b _ _ _ k)
     (not_white b single (within_above 0x9 0xD b (omega arith)) (within_below 0x2000 0x200A b (omega arith))
     (within_below 0x2028 0x2029 b (omega arith))))
   where
@@ -152,28 +147,28 @@ module _ (m : Mode) (x r : List ℕ) (run : Run x) (edge : one run_byte r ≡ 0)
   abbrev Heard : Type 0
   Heard = heard (x ++ r) m 0 ≡ said (x ++ r) t ∷ heard r m 0
 
-  heard_word : or_else (named_of x (length x)) (other_of (x ++ r) m 0 (length x)) ≡ Is t (length x) → Heard
+  heard_word : or_else (named_of x (length x)) (other_of (x ++ r) m 0 (length x)) ≡ Some (t, length x) → Heard
   heard_word h =
       heard_say (x ++ r) m t 0 (length x) (scan_run m x r run edge ∙ ap (told m 0 (length x)) h)
       ∙ ap (λ (y : List ℕ). said (x ++ r) t ∷ heard y m 0) (drop-append_seam x r)
 
   -- a run that its bytes alone tell
-  heard_named : named_of x (length x) ≡ Is t (length x) → Heard
-  heard_named h = heard_word (ap (λ (y : Word). or_else y (other_of (x ++ r) m 0 (length x))) h)
+  heard_named : named_of x (length x) ≡ Some (t, length x) → Heard
+  heard_named h = heard_word (ap (λ (y : Option (Token × ℕ)). or_else y (other_of (x ++ r) m 0 (length x))) h)
 
   -- a run that is a reference
-  heard_referred : named_of x (length x) ≡ Not → referred_of (x ++ r) 0 ≡ Is t (length x) → Heard
+  heard_referred : named_of x (length x) ≡ None → referred_of (x ++ r) 0 ≡ Some (t, length x) → Heard
   unfolding other_of
   heard_referred h k =
-      heard_word (ap (λ (y : Word). or_else y (other_of (x ++ r) m 0 (length x))) h
-      ∙ ap (λ (y : Word). or_else y (loose_of (x ++ r) m 0 (length x))) k)
+      heard_word (ap (λ (y : Option (Token × ℕ)). or_else y (other_of (x ++ r) m 0 (length x))) h
+      ∙ ap (λ (y : Option (Token × ℕ)). or_else y (loose_of (x ++ r) m 0 (length x))) k)
 
 -- different bytes, the other way round
 same_flip : (a b : List ℕ) → same a b ≡ false → same b a ≡ false
 same_flip a b e = same_not b a (λ q. true≢false (sym (same_refl a) ∙ ap (same a) (sym q) ∙ e))
 
 -- a listed name is no operator
-proper_operator : (n : List ℕ) (e : ℕ) → Proper n → operator_of n e ≡ Not
+proper_operator : (n : List ℕ) (e : ℕ) → Proper n → operator_of n e ≡ None
 unfolding operator_of
 proper_operator n e h =
     simp (
@@ -186,11 +181,11 @@ proper_operator n e h =
     )
 
 -- its bytes alone tell it
-licence_named : (k e : ℕ) → k < length listed → named_of (licence_name k) e ≡ Is (Licence k) e
+licence_named : (k e : ℕ) → k < length listed → named_of (licence_name k) e ≡ Some (Licence k, e)
 unfolding named_of listed_of
 licence_named k e h = simp (proper_operator (licence_name k) e (licence_proper k h), licence_found k h)
 
-exception_named : (k e : ℕ) → k < length exceptions → named_of (exception_name k) e ≡ Is (Exception k) e
+exception_named : (k e : ℕ) → k < length exceptions → named_of (exception_name k) e ≡ Some (Exception k, e)
 unfolding named_of listed_of
 exception_named k e h =
     simp (proper_operator (exception_name k) e (exception_proper k h), exception_not_licence k h, exception_found k h)
@@ -217,12 +212,12 @@ module _ (m : Mode) (k : ℕ) (r : List ℕ) (edge : one run_byte r ≡ 0) where
 
 -- where the prefix of a reference stands, behind the document part if there is one, and what the lexer takes for that part
 abbrev place_of : Option (List ℕ) → ℕ
-place_of none = 0
-place_of (some d) = 12 + length d + 1
+place_of None = 0
+place_of (Some d) = 12 + length d + 1
 
-abbrev doc_of : Option (List ℕ) → Doc
-doc_of none = Absent
-doc_of (some d) = Part (span 12 (12 + length d))
+abbrev doc_of : Option (List ℕ) → Option Span
+doc_of None = None
+doc_of (Some d) = Some (span 12 (12 + length d))
 
 -- bytes that may stand in a document part, behind its prefix
 document_all : (p : ℕ → Bool) → all_of p (ascii "DocumentRef-") ≡ true → (d : List ℕ) → All p d → All p (ascii "DocumentRef-" ++ d)
@@ -235,33 +230,33 @@ all_ref_run (b ∷ n) a = (ref_run b a.0, all_ref_run n a.1)
 
 -- what is put behind stands behind
 behind_append : (o : Option (List ℕ)) (t r : List ℕ) → behind_doc o t ++ r ≡ behind_doc o (t ++ r)
-behind_append none t r = refl
-behind_append (some d) t r = ap (λ (y : List ℕ). ascii "DocumentRef-" ++ y) (append_assoc d (ascii ":" ++ t) r)
+behind_append None t r = refl
+behind_append (Some d) t r = ap (λ (y : List ℕ). ascii "DocumentRef-" ++ y) (append_assoc d (ascii ":" ++ t) r)
 
 -- how long it is, where its prefix stands, and that it is made of run bytes
 behind_length : (o : Option (List ℕ)) (t : List ℕ) → length (behind_doc o t) ≡ place_of o + length t
-behind_length none t = omega arith
-behind_length (some d) t = omega (arith, length-append d (ascii ":" ++ t))
+behind_length None t = omega arith
+behind_length (Some d) t = omega (arith, length-append d (ascii ":" ++ t))
 
 behind_drop : (o : Option (List ℕ)) (t : List ℕ) → drop (place_of o) (behind_doc o t) ≡ t
-behind_drop none t = refl
-behind_drop (some d) t =
+behind_drop None t = refl
+behind_drop (Some d) t =
     let e : 12 + length d + 1 ≡ 12 + (length d + 1) = omega arith in
-    ap (λ (k : ℕ). drop k (behind_doc (some d) t)) e ∙ sym (drop-drop (length d + 1) 12 (behind_doc (some d) t))
+    ap (λ (k : ℕ). drop k (behind_doc (Some d) t)) e ∙ sym (drop-drop (length d + 1) 12 (behind_doc (Some d) t))
     ∙ drop-append-add d (ascii ":" ++ t) 1
 
 behind_run : (o : Option (List ℕ)) (t : List ℕ) → KnownDoc o → All run_byte t → All run_byte (behind_doc o t)
 unfolding all_of run_byte ref_byte within
-behind_run none t k a = a
-behind_run (some d) t k a = document_all run_byte refl (d ++ (ascii ":" ++ t)) (all_append run_byte d (ascii ":" ++ t) (all_ref_run d k) (refl, a))
+behind_run None t k a = a
+behind_run (Some d) t k a = document_all run_byte refl (d ++ (ascii ":" ++ t)) (all_append run_byte d (ascii ":" ++ t) (all_ref_run d k) (refl, a))
 
 -- the lexer finds the document part, and takes its bytes
 behind_document : (o : Option (List ℕ)) (t : List ℕ) → KnownDoc o → begins (ascii "DocumentRef-") t ≡ false
     → document_of (behind_doc o t) 0 ≡ doc_of o
 unfolding document_of begins ref_end one all_of ref_byte within
-behind_document none t k e = simp e
-behind_document (some d) t k e =
-    let s = behind_doc (some d) t in
+behind_document None t k e = simp e
+behind_document (Some d) t k e =
+    let s = behind_doc (Some d) t in
     let w = ascii "DocumentRef-" ++ d in
     let l : length w ≡ 12 + length d = omega arith in
     let f : ref_end s 0 ≡ 12 + length d =
@@ -270,21 +265,21 @@ behind_document (some d) t k e =
     simp (f, g)
 
 behind_bytes : (o : Option (List ℕ)) (t : List ℕ) → doc_bytes (behind_doc o t) (doc_of o) ≡ o
-behind_bytes none t = refl
-behind_bytes (some d) t = ap some (part_there (behind_doc (some d) t) 12 d (ascii ":" ++ t) refl)
+behind_bytes None t = refl
+behind_bytes (Some d) t = ap Some (part_there (behind_doc (Some d) t) 12 d (ascii ":" ++ t) refl)
 
 -- what makes w the prefix of a kind of reference: it is made of run bytes, it is the one that is tried where it stands, and what it begins
 -- has no document part and no name
-record Prefix (kind : Doc → Span → Token) (w : List ℕ) : Type 0 where
+record Prefix (kind : Option Span → Span → Token) (w : List ℕ) : Type 0 where
   run : All run_byte w
   some : 0 < length w
-  tried : (s : List ℕ) (q : ℕ) (d : Doc) (t : List ℕ) → drop q s ≡ w ++ t
-      → ref_at s q d ≡ Is (kind d (span (q + length w) (ref_end s (q + length w)))) (ref_end s (q + length w))
+  tried : (s : List ℕ) (q : ℕ) (d : Option Span) (t : List ℕ) → drop q s ≡ w ++ t
+      → ref_at s q d ≡ Some (kind d (span (q + length w) (ref_end s (q + length w))), ref_end s (q + length w))
   alone : (t : List ℕ) → begins (ascii "DocumentRef-") (w ++ t) ≡ false
-  unnamed : (t : List ℕ) (e : ℕ) → named_of (w ++ t) e ≡ Not
+  unnamed : (t : List ℕ) (e : ℕ) → named_of (w ++ t) e ≡ None
 
 -- what is neither an operator nor listed has no name
-unnamed_by : (x : List ℕ) (e : ℕ) → operator_of x e ≡ Not → Unlisted x → named_of x e ≡ Not
+unnamed_by : (x : List ℕ) (e : ℕ) → operator_of x e ≡ None → Unlisted x → named_of x e ≡ None
 unfolding named_of listed_of
 unnamed_by x e o u = simp (o, u.licence, u.exception)
 
@@ -313,7 +308,7 @@ addition_prefix =
     }
 
 -- a reference is a run
-prefix_run : (kind : Doc → Span → Token) (w : List ℕ) → Prefix kind w → (o : Option (List ℕ)) (n : List ℕ) → KnownRef (o, n)
+prefix_run : (kind : Option Span → Span → Token) (w : List ℕ) → Prefix kind w → (o : Option (List ℕ)) (n : List ℕ) → KnownRef (o, n)
     → Run (behind_doc o (w ++ n))
 prefix_run kind w p o n k = (
   omega (arith, behind_length o (w ++ n), length-append w n, p.some),
@@ -321,7 +316,7 @@ prefix_run kind w p o n k = (
 )
 
 -- a reference o, n of a kind with the prefix w, and r behind it
-module _ (kind : Doc → Span → Token) (w : List ℕ) (prefix : Prefix kind w) (m : Mode) (o : Option (List ℕ)) (n r : List ℕ)
+module _ (kind : Option Span → Span → Token) (w : List ℕ) (prefix : Prefix kind w) (m : Mode) (o : Option (List ℕ)) (n r : List ℕ)
     (doc : KnownDoc o) (all : All ref_byte n) (edge : one run_byte r ≡ 0) where
   abbrev x : List ℕ
   x = behind_doc o (w ++ n)
@@ -353,20 +348,20 @@ module _ (kind : Doc → Span → Token) (w : List ℕ) (prefix : Prefix kind w)
   whole = omega (arith, behind_length o (w ++ n), length-append w n)
 
   behind_doc_lem : (o : Option (List ℕ)) → behind (x ++ r) 0 (doc_of o) ≡ ref_at (x ++ r) (place_of o) (doc_of o)
-  behind_doc_lem none = refl
-  behind_doc_lem (some d) = refl
+  behind_doc_lem None = refl
+  behind_doc_lem (Some d) = refl
 
-  referred : referred_of (x ++ r) 0 ≡ Is token (length x)
+  referred : referred_of (x ++ r) 0 ≡ Some (token, length x)
   unfolding referred_of
   referred =
       ap (behind (x ++ r) 0) document_there ∙ behind_doc_lem o ∙ prefix.tried (x ++ r) (place_of o) (doc_of o) (n ++ r) prefix_there
       ∙ simp (name_end, whole)
 
-  unnamed_ref : (o : Option (List ℕ)) (e : ℕ) → named_of (behind_doc o (w ++ n)) e ≡ Not
+  unnamed_ref : (o : Option (List ℕ)) (e : ℕ) → named_of (behind_doc o (w ++ n)) e ≡ None
   unfolding operator_of same begins
-  unnamed_ref none e = prefix.unnamed n e
-  unnamed_ref (some d) e =
-      unnamed_by (behind_doc (some d) (w ++ n)) e refl (document_ref_unlisted (behind_doc (some d) (w ++ n)) refl)
+  unnamed_ref None e = prefix.unnamed n e
+  unnamed_ref (Some d) e =
+      unnamed_by (behind_doc (Some d) (w ++ n)) e refl (document_ref_unlisted (behind_doc (Some d) (w ++ n)) refl)
 
   heard_ref : heard (x ++ r) m 0 ≡ said (x ++ r) token ∷ heard r m 0
   heard_ref =

@@ -1,6 +1,7 @@
 -- Laws of what a step's token is to the text that it stands in (Standing.antt), of `+`, and that a lexer which allows no unknown terms hands
 -- out known tokens (Apart.antt). One walk through the definitions of a step serves all three.
-use Rattle.std.specs.Prelude.{ℕ, zero, suc, ◌+◌, ◌-◌, ◌<◌, ◌≤◌, ◌≡◌, Bool, false, ◌&&◌, ◌||◌, List, [], ◌∷◌, ◌++◌, leb, take, drop}
+use Rattle.lexer.specs.Step.{Step}
+use Rattle.std.specs.Prelude.{ℕ, zero, suc, ◌+◌, ◌-◌, ◌<◌, ◌≤◌, ◌≡◌, Bool, false, ◌&&◌, ◌||◌, List, [], ◌∷◌, ◌++◌, leb, take, drop, Option, Some, None, Ok, Err}
 use Rattle.std.proofs.Math.Path.{refl, ap}
 use Rattle.std.proofs.Common.{sym, ◌∙◌, subst, true≢false, drop-cons, drop-drop, take-add, get_or-drop}
 use Rattle.std.proofs.Math.Bool.{true}
@@ -20,16 +21,11 @@ use Rattle.names.specs.Lookup.{licence_of, exception_of, imprecise_of, licence_n
 use Rattle.names.specs.Shape.{licence_proper}
 use Rattle.names.proofs.Laws.{LicenceIs, ExceptionIs, licence_is, exception_is}
 use Rattle.names.proofs.Fits.{LooseIs, imprecise_is}
-use Rattle.names.specs.declared.Found.{Found}
-use Rattle.names.specs.declared.Found.TheVariants.{At, Nothing}
 use Rattle.names.specs.declared.Loose.{Loose}
-use Rattle.names.specs.declared.Loose.TheVariants.{Hit, Miss}
 use Rattle.refusal.specs.Refused.{span}
 use Rattle.refusal.specs.declared.Span.{Span}
 use Rattle.mode.specs.declared.Mode.{Mode}
 use Rattle.lexer.specs.declared.Cursor.{Cursor}
-use Rattle.lexer.specs.declared.Doc.{Doc}
-use Rattle.lexer.specs.declared.Doc.TheVariants.{Absent, Part}
 use Rattle.lexer.specs.declared.Token.{Token}
 use Rattle.lexer.specs.declared.Token.TheVariants.{
   And,
@@ -44,10 +40,6 @@ use Rattle.lexer.specs.declared.Token.TheVariants.{
   AdditionRef,
   Unknown,
 }
-use Rattle.lexer.specs.declared.Word.{Word}
-use Rattle.lexer.specs.declared.Word.TheVariants.{Is, Not}
-use Rattle.lexer.specs.declared.Step.{Step}
-use Rattle.lexer.specs.declared.Step.TheVariants.{Got, Done, Refused}
 use Rattle.lexer.specs.Lex.{
   run_end,
   ref_end,
@@ -157,23 +149,23 @@ Besides s m at (Unknown n) = m.unknown ≡ true
 abbrev Shown : List ℕ → Mode → ℕ → Token → Span → Type 0
 Shown s m at t sp = Standing s t sp × Besides s m at t
 
-abbrev ShownWord : List ℕ → Mode → ℕ → ℕ → Word → Type 0
-ShownWord s m at p (Is t x) = Shown s m at t (span p x)
-ShownWord s m at p Not = Unit {0}
+abbrev ShownWord : List ℕ → Mode → ℕ → ℕ → Option (Token × ℕ) → Type 0
+ShownWord s m at p (Some (t, x)) = Shown s m at t (span p x)
+ShownWord s m at p None = Unit {0}
 
 abbrev ShownStep : List ℕ → Mode → ℕ → Step → Type 0
-ShownStep s m at (Got t sp nx) = Shown s m at t sp
-ShownStep s m at Done = Unit {0}
-ShownStep s m at (Refused r) = Unit {0}
+ShownStep s m at (Ok (Some g)) = Shown s m at g.token g.span
+ShownStep s m at (Ok None) = Unit {0}
+ShownStep s m at (Err r) = Unit {0}
 
 -- what two tries in order say
-either_shown : (s : List ℕ) (m : Mode) (at p : ℕ) (v w : Word) → ShownWord s m at p v → ShownWord s m at p w
+either_shown : (s : List ℕ) (m : Mode) (at p : ℕ) (v w : Option (Token × ℕ)) → ShownWord s m at p v → ShownWord s m at p w
     → ShownWord s m at p (or_else v w)
-either_shown s m at p (Is t x) w f g = f
-either_shown s m at p Not w f g = g
+either_shown s m at p (Some (t, x)) w f g = f
+either_shown s m at p None w f g = g
 
 module _ (s : List ℕ) (m : Mode) (at p : ℕ) where
-  abbrev Says : Word → Type 0
+  abbrev Says : Option (Token × ℕ) → Type 0
   Says = ShownWord s m at p
 
   -- the whole run, from p to e
@@ -194,18 +186,18 @@ module _ (s : List ℕ) (m : Mode) (at p : ℕ) where
     licence_shown : Says (found Licence e (licence_of (part p e s)))
     licence_shown = go (licence_of (part p e s)) (licence_is (part p e s))
       where
-        go : (f : Found) → LicenceIs (part p e s) f → Says (found Licence e f)
-        go (At k) i =
+        go : (f : Option ℕ) → LicenceIs (part p e s) f → Says (found Licence e f)
+        go (Some k) i =
             let l : length (licence_name k) ≡ length (part p e s) = ap length i.1 in
             (record { known = i.0; room = omega (arith, run_length, (licence_proper k i.0).long) }, tt)
-        go Nothing i = tt
+        go None i = tt
 
     exception_shown : Says (found Exception e (exception_of (part p e s)))
     exception_shown = go (exception_of (part p e s)) (exception_is (part p e s))
       where
-        go : (f : Found) → ExceptionIs (part p e s) f → Says (found Exception e f)
-        go (At k) i = ((i.0, sym i.1), tt)
-        go Nothing i = tt
+        go : (f : Option ℕ) → ExceptionIs (part p e s) f → Says (found Exception e f)
+        go (Some k) i = ((i.0, sym i.1), tt)
+        go None i = tt
 
     unknown_shown : Says (unknown_of m p e)
     unfolding unknown_of
@@ -216,16 +208,16 @@ module _ (s : List ℕ) (m : Mode) (at p : ℕ) where
   imprecise_shown =
       by_cond Says m.imprecise _ _ (λ x. go (imprecise_of (drop p s)) (imprecise_is (drop p s))) (λ x. tt)
     where
-      go : (l : Loose) → LooseIs (drop p s) l → Says (hit p l)
-      go (Hit k n) i = (record { known = i.known; room = omega (arith, i.room) }, tt)
-      go Miss i = tt
+      go : (l : Option Loose) → LooseIs (drop p s) l → Says (hit p l)
+      go (Some x) i = (record { known = i.known; room = omega (arith, i.room) }, tt)
+      go None i = tt
 
   -- a reference of either kind, with the prefix w
-  module _ (kind : Doc → Span → Token) (w : List ℕ)
-      (is : (d : Doc) (n sp : Span) → bytes_of s sp ≡ behind_doc (doc_bytes s d) (w ++ bytes_of s n) → KnownRef (doc_bytes s d, bytes_of s n)
+  module _ (kind : Option Span → Span → Token) (w : List ℕ)
+      (is : (d : Option Span) (n sp : Span) → bytes_of s sp ≡ behind_doc (doc_bytes s d) (w ++ bytes_of s n) → KnownRef (doc_bytes s d, bytes_of s n)
       → Shown s m at (kind d n) sp) where
     -- at a place q, where the document part d stands from p up to there
-    ref_shown : (d : Doc) (q : ℕ) → ((e : ℕ) → q ≤ e → part p e s ≡ behind_doc (doc_bytes s d) (part q e s))
+    ref_shown : (d : Option Span) (q : ℕ) → ((e : ℕ) → q ≤ e → part p e s ≡ behind_doc (doc_bytes s d) (part q e s))
         → KnownDoc (doc_bytes s d) → Says (ref_of kind w d s q)
     unfolding ref_of
     ref_shown d q behind known =
@@ -242,7 +234,7 @@ module _ (s : List ℕ) (m : Mode) (at p : ℕ) where
     documented_shown =
         by_cond Says (begins (ascii "DocumentRef-") (drop p s) && eqb (get_or s (ref_end s p) 0) 0x3A) _ _
         (λ x. let y = both (begins (ascii "DocumentRef-") (drop p s)) (eqb (get_or s (ref_end s p) 0) 0x3A) x in
-        ref_shown (Part (span (p + 12) (ref_end s p))) (ref_end s p + 1)
+        ref_shown (Some (span (p + 12) (ref_end s p))) (ref_end s p + 1)
         (λ e h. document_join s p e y.0 (eqb-true (get_or s (ref_end s p) 0) 0x3A y.1) h) (name_bytes_lem s p (p + 12) (omega arith)))
         (λ x. tt)
 
@@ -256,12 +248,12 @@ module _ (s : List ℕ) (m : Mode) (at p : ℕ) where
       (or (found Exception e (exception_of r)) _ (exception_shown e h k)
       (or (documented LicenseRef (ascii "LicenseRef-") s p) _
       (documented_shown LicenseRef (ascii "LicenseRef-") (λ d n sp i j. (i, j)))
-      (or (ref_of LicenseRef (ascii "LicenseRef-") Absent s p) _
-      (ref_shown LicenseRef (ascii "LicenseRef-") (λ d n sp i j. (i, j)) Absent p (λ e i. refl) tt)
+      (or (ref_of LicenseRef (ascii "LicenseRef-") None s p) _
+      (ref_shown LicenseRef (ascii "LicenseRef-") (λ d n sp i j. (i, j)) None p (λ e i. refl) tt)
       (or (documented AdditionRef (ascii "AdditionRef-") s p) _
       (documented_shown AdditionRef (ascii "AdditionRef-") (λ d n sp i j. (i, j)))
-      (or (ref_of AdditionRef (ascii "AdditionRef-") Absent s p) _
-      (ref_shown AdditionRef (ascii "AdditionRef-") (λ d n sp i j. (i, j)) Absent p (λ e i. refl) tt)
+      (or (ref_of AdditionRef (ascii "AdditionRef-") None s p) _
+      (ref_shown AdditionRef (ascii "AdditionRef-") (λ d n sp i j. (i, j)) None p (λ e i. refl) tt)
       (or (imprecise_at s m p) (unknown_of m p e) imprecise_shown (unknown_shown e h k))))))))
 
   run_shown : p < length s → ShownStep s m at (run_of s m p)
@@ -271,9 +263,9 @@ module _ (s : List ℕ) (m : Mode) (at p : ℕ) where
       (λ x. go (word_of s m p (run_end s p))
       (word_shown (run_end s p) (omega (arith, run_ge s p, eqb-false (run_end s p) p x)) (run_le s p (omega arith))))
     where
-      go : (w : Word) → Says w → ShownStep s m at (told m p (run_end s p) w)
-      go (Is t x) i = i
-      go Not i = tt
+      go : (w : Option (Token × ℕ)) → Says w → ShownStep s m at (told m p (run_end s p) w)
+      go (Some (t, x)) i = i
+      go None i = tt
 
   mark_shown : ShownStep s m at (mark_of s m at p)
   unfolding mark_of
@@ -297,9 +289,9 @@ pub scan_standing : (s : List ℕ) (m : Mode) (at : ℕ) → StandingStep s (sca
 scan_standing s m at = go (scan_of s m at) (scan_shown s m at)
   where
     go : (st : Step) → ShownStep s m at st → StandingStep s st
-    go (Got t sp nx) h = h.0
-    go Done h = tt
-    go (Refused r) h = tt
+    go (Ok (Some g)) h = h.0
+    go (Ok None) h = tt
+    go (Err r) h = tt
 
 -- a `+` is no white space
 plus_white : (s : List ℕ) (at : ℕ) → get_or s at 0 ≡ 0x2B → white_width (drop at s) ≡ 0
@@ -316,7 +308,7 @@ unfolding scan_of
 plus_here s m at e =
     ap (mark_of s m at) (plus_stays s at e) ∙ sym (mark_plus s m at at (byte_in s at 0x2B e (omega arith)) e refl)
 
-pub plus_there : (s : List ℕ) (m : Mode) (at : ℕ) (sp : Span) (nx : Cursor) → scan_of s m at ≡ Got Plus sp nx → get_or s at 0 ≡ 0x2B
+pub plus_there : (s : List ℕ) (m : Mode) (at : ℕ) (sp : Span) (nx : Cursor) → scan_of s m at ≡ Ok (Some record { token = Plus; span = sp; next = nx }) → get_or s at 0 ≡ 0x2B
 plus_there s m at sp nx e = (subst (ShownStep s m at) e (scan_shown s m at)).1
 
 -- a token of a lexer that allows no unknown terms, and known tokens behind it
@@ -341,9 +333,9 @@ walked_known s m u (suc n) at = go (λ x. walked_known s m u n x) (scan_of s m a
   where
     go : ((x : ℕ) → KnownOrBad (said_of s (walked (scan_of s m) n x))) → (st : Step) → ShownStep s m at st
         → KnownOrBad (said_of s (and_then st (walked (scan_of s m) n)))
-    go ih (Got t sp nx) h = token_known s m u at t sp (said_of s (walked (scan_of s m) n nx.at)) h (ih nx.at)
-    go ih Done h = tt
-    go ih (Refused r) h = refl
+    go ih (Ok (Some g)) h = token_known s m u at g.token g.span (said_of s (walked (scan_of s m) n g.next.at)) h (ih g.next.at)
+    go ih (Ok None) h = tt
+    go ih (Err r) h = refl
 
 -- a lexer that allows no unknown terms hands out known tokens
 pub heard_known : (s : List ℕ) (m : Mode) → m.unknown ≡ false → (at : ℕ) → KnownOrBad (heard s m at)

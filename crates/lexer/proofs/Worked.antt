@@ -1,6 +1,7 @@
 -- The worked texts of document 01 that speak of tokens, and texts at the edges of its rules: one table, computed, under one claim.
 -- Answers are in document 01's words: a listed name is its bytes, a refusal its number and last column.
-use Rattle.std.specs.Prelude.{ℕ, ◌≡◌, refl, List, [], ◌∷◌, ◌++◌, map, replicate}
+use Rattle.lexer.specs.Step.{Step}
+use Rattle.std.specs.Prelude.{ℕ, ◌≡◌, refl, List, [], ◌∷◌, ◌++◌, map, replicate, Option, Some, None, Ok, Err}
 use Prim.Native.String.{String}
 use Rattle.text.specs.Text.{ascii, begins, same, within, part}
 use Rattle.text.specs.Walk.{over, reach, one}
@@ -26,12 +27,8 @@ use Rattle.refusal.specs.declared.Span.{Span}
 use Rattle.refusal.specs.declared.Column.{Column}
 use Rattle.refusal.specs.declared.Column.TheVariants.{Place, Number}
 use Rattle.mode.specs.declared.Mode.{Mode}
-use Rattle.lexer.specs.declared.Doc.{Doc}
-use Rattle.lexer.specs.declared.Doc.TheVariants.{Absent, Part}
 use Rattle.lexer.specs.declared.Token.{Token}
 use Rattle.lexer.specs.declared.Token.TheVariants.{And, Or, With, Plus, Open, Close, Licence, Exception, LicenseRef, AdditionRef, Unknown}
-use Rattle.lexer.specs.declared.Step.{Step}
-use Rattle.lexer.specs.declared.Step.TheVariants.{Got, Done, Refused}
 use Rattle.mode.specs.Modes.{strict, lax, mode_of}
 use Rattle.lexer.specs.Lex.{
   run_end,
@@ -61,8 +58,8 @@ data Kind : Type 0 where
   closes : Kind
   licence : List ℕ → Kind
   exception : List ℕ → Kind
-  license_ref : Doc → Span → Kind
-  addition_ref : Doc → Span → Kind
+  license_ref : Option Span → Span → Kind
+  addition_ref : Option Span → Span → Kind
   unknown : Span → Kind
 
 kind_of : Token → Kind
@@ -91,9 +88,9 @@ data Answer : Type 0 where
   no : ℕ → Column → Answer
 
 of_step : Step → Answer
-of_step (Got t sp nx) = tok (kind_of t) sp.start sp.end (next nx.at)
-of_step Done = end
-of_step (Refused r) = no (number_of r) (column_of r)
+of_step (Ok (Some g)) = tok (kind_of g.token) g.span.start g.span.end (next g.next.at)
+of_step (Ok None) = end
+of_step (Err r) = no (number_of r) (column_of r)
 
 of_tokens : Tokens → Answer
 of_tokens done = end
@@ -133,7 +130,7 @@ table =
     ∷ (steps strict (ascii "+"), tok plus 0 1 end)
     ∷ (steps strict [], end)
     ∷ (steps strict (ascii "((MIT"), tok opens 0 1 (tok opens 1 2 (lic "MIT" 2 5 end)))
-    ∷ (steps strict (ascii "LicenseRef-"), tok (license_ref Absent (span 11 11)) 0 11 end)
+    ∷ (steps strict (ascii "LicenseRef-"), tok (license_ref None (span 11 11)) 0 11 end)
     ∷ (steps lax (ascii "mitMIT"), lic "MIT" 0 3 (lic "MIT" 3 6 end))
     ∷ (steps strict (ascii "MIT " ++ é), lic "MIT" 0 3 (at 3 4 6))
     ∷ (steps strict (ascii "MIT " ++ (0xE9 ∷ [])), at 1 4 5)
@@ -181,11 +178,11 @@ table =
     ∷ (steps only_unknown (ascii "foo:b"), tok (unknown (span 0 5)) 0 5 end)
     ∷ (steps every (ascii "mit-x"), lic "MIT" 0 3 (tok (unknown (span 3 5)) 3 5 end))
     -- references: split at the first `:`, ended at the next one, with names that may be empty
-    ∷ (steps strict (ascii "LicenseRef-a:b"), tok (license_ref Absent (span 11 12)) 0 12 (at 4 12 14))
-    ∷ (steps strict (ascii "AdditionRef-"), tok (addition_ref Absent (span 12 12)) 0 12 end)
-    ∷ (steps strict (ascii "DocumentRef-a:LicenseRef-b"), tok (license_ref (Part (span 12 13)) (span 25 26)) 0 26 end)
-    ∷ (steps strict (ascii "DocumentRef-:LicenseRef-"), tok (license_ref (Part (span 12 12)) (span 24 24)) 0 24 end)
-    ∷ (steps strict (ascii "DocumentRef-a:AdditionRef-b:c"), tok (addition_ref (Part (span 12 13)) (span 26 27)) 0 27 (at 4 27 29))
+    ∷ (steps strict (ascii "LicenseRef-a:b"), tok (license_ref None (span 11 12)) 0 12 (at 4 12 14))
+    ∷ (steps strict (ascii "AdditionRef-"), tok (addition_ref None (span 12 12)) 0 12 end)
+    ∷ (steps strict (ascii "DocumentRef-a:LicenseRef-b"), tok (license_ref (Some (span 12 13)) (span 25 26)) 0 26 end)
+    ∷ (steps strict (ascii "DocumentRef-:LicenseRef-"), tok (license_ref (Some (span 12 12)) (span 24 24)) 0 24 end)
+    ∷ (steps strict (ascii "DocumentRef-a:AdditionRef-b:c"), tok (addition_ref (Some (span 12 13)) (span 26 27)) 0 27 (at 4 27 29))
     ∷ (steps strict (ascii "DocumentRef-a"), at 4 0 13)
     ∷ (steps strict (ascii "DocumentRef-a:MIT"), at 4 0 17)
     ∷ (steps strict (ascii "DocumentRef-a:b:LicenseRef-c"), at 4 0 28)

@@ -1,6 +1,5 @@
 -- Which tokens the lexer hands out, by their bytes, and when tokens that are spelled one behind the other can be told apart again.
-use Rattle.std.specs.Prelude.{ℕ, ◌<◌, ◌≡◌, Bool, true, false, not, ◌&&◌, List, [], ◌∷◌, length}
-use Rattle.std.proofs.Math.Option.{Option, none, some}
+use Rattle.std.specs.Prelude.{ℕ, ◌<◌, ◌≡◌, Bool, true, false, not, ◌&&◌, List, [], ◌∷◌, length, Option, Some, None}
 use Rattle.text.specs.Every.{All}
 use Rattle.text.specs.Runs.{ref_byte}
 use Rattle.names.specs.Listed.{listed, exceptions}
@@ -9,8 +8,8 @@ use Rattle.lexer.specs.Spelling.{Naming, Spoken}
 
 -- the names of a reference are made of a reference's bytes
 abbrev pub KnownDoc : Option (List ℕ) → Type 0
-KnownDoc none = Unit {0}
-KnownDoc (some d) = All ref_byte d
+KnownDoc None = Unit {0}
+KnownDoc (Some d) = All ref_byte d
 
 abbrev pub KnownRef : Naming → Type 0
 KnownRef r = KnownDoc r.0 × All ref_byte r.1

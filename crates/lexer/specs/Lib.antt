@@ -1,3 +1,4 @@
+pub mod Step
 pub mod Lex
 pub mod Tokens
 pub mod Sign

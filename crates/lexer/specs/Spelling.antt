@@ -1,14 +1,11 @@
 -- A text's tokens by their bytes, with no place of any, and how each is written. Document 01: "Trees compare references by their bytes";
 -- "Canonical text: by the rules of `canonicalize`": operators in upper case with a space on each side, names as they are listed, parentheses
 -- and references as they are.
-use Rattle.std.specs.Prelude.{ℕ, List, [], ◌∷◌, ◌++◌}
-use Rattle.std.proofs.Math.Option.{Option, none, some}
+use Rattle.std.specs.Prelude.{ℕ, List, [], ◌∷◌, ◌++◌, Some, None, Option}
 use Rattle.text.specs.Text.{ascii, part}
 use Rattle.names.specs.Lookup.{licence_name, exception_name}
 use Rattle.refusal.specs.declared.Span.{Span}
 use Rattle.mode.specs.declared.Mode.{Mode}
-use Rattle.lexer.specs.declared.Doc.{Doc}
-use Rattle.lexer.specs.declared.Doc.TheVariants as D
 use Rattle.lexer.specs.declared.Token.{Token}
 use Rattle.lexer.specs.declared.Token.TheVariants as T
 use Rattle.lexer.specs.Tokens.{Tokens, done, refused, token, tokens_of}
@@ -25,9 +22,9 @@ Spoken = Sign Naming (Unit {0})
 abbrev pub bytes_of : List ℕ → Span → List ℕ
 bytes_of s sp = part sp.start sp.end s
 
-abbrev pub doc_bytes : List ℕ → Doc → Option (List ℕ)
-doc_bytes s D.Absent = none
-doc_bytes s (D.Part d) = some (bytes_of s d)
+abbrev pub doc_bytes : List ℕ → Option Span → Option (List ℕ)
+doc_bytes s None = None
+doc_bytes s (Some d) = Some (bytes_of s d)
 
 abbrev pub said : List ℕ → Token → Spoken
 said s T.And = AND
@@ -40,7 +37,7 @@ said s (T.Licence k) = name k tt
 said s (T.Exception k) = exception k
 said s (T.LicenseRef d n) = reference (doc_bytes s d, bytes_of s n) tt
 said s (T.AdditionRef d n) = addition (doc_bytes s d, bytes_of s n)
-said s (T.Unknown n) = unknown (none, bytes_of s n) tt
+said s (T.Unknown n) = unknown (None, bytes_of s n) tt
 
 abbrev pub said_of : List ℕ → Tokens → List Spoken
 said_of s done = []
@@ -53,8 +50,8 @@ heard s m at = said_of s (tokens_of s m at)
 
 -- a reference w, behind its document part
 abbrev pub behind_doc : Option (List ℕ) → List ℕ → List ℕ
-behind_doc none w = w
-behind_doc (some d) w = ascii "DocumentRef-" ++ (d ++ (ascii ":" ++ w))
+behind_doc None w = w
+behind_doc (Some d) w = ascii "DocumentRef-" ++ (d ++ (ascii ":" ++ w))
 
 -- how a token is written
 abbrev pub spell : Spoken → List ℕ

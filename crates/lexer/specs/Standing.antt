@@ -1,13 +1,12 @@
 -- What the token of a step is to the text that it stands in: a name is listed, a reference stands there as it is written, and how long a token is
 -- told from how long it is written.
-use Rattle.std.specs.Prelude.{ℕ, ◌+◌, ◌-◌, ◌*◌, ◌<◌, ◌≤◌, ◌≡◌, List, length}
+use Rattle.lexer.specs.Step.{Step}
+use Rattle.std.specs.Prelude.{ℕ, ◌+◌, ◌-◌, ◌*◌, ◌<◌, ◌≤◌, ◌≡◌, List, length, Some, None, Ok, Err}
 use Rattle.names.specs.Listed.{listed, exceptions}
 use Rattle.names.specs.Lookup.{licence_name}
 use Rattle.refusal.specs.declared.Span.{Span}
 use Rattle.lexer.specs.declared.Token.{Token}
 use Rattle.lexer.specs.declared.Token.TheVariants.{And, Or, With, Plus, Open, Close, Licence, Exception, LicenseRef, AdditionRef, Unknown}
-use Rattle.lexer.specs.declared.Step.{Step}
-use Rattle.lexer.specs.declared.Step.TheVariants.{Got, Done, Refused}
 use Rattle.lexer.specs.Spelling.{bytes_of, said, spell}
 
 -- a name, for which an imprecise one may stand
@@ -34,6 +33,6 @@ Standing s (AdditionRef d n) sp = AsItStands s (AdditionRef d n) sp
 Standing s (Unknown n) sp = AsItStands s (Unknown n) sp
 
 abbrev pub StandingStep : List ℕ → Step → Type 0
-StandingStep s (Got t sp nx) = Standing s t sp
-StandingStep s Done = Unit {0}
-StandingStep s (Refused r) = Unit {0}
+StandingStep s (Ok (Some g)) = Standing s g.token g.span
+StandingStep s (Ok None) = Unit {0}
+StandingStep s (Err r) = Unit {0}

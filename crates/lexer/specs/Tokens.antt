@@ -1,12 +1,11 @@
 -- All tokens of a text, ended by done or by a refusal. Document 01: "tokens left to right"; "At the end a step answers done; a lexer
 -- refusal gives no next cursor".
-use Rattle.std.specs.Prelude.{ℕ, zero, suc, ◌-◌, List, length}
+use Rattle.lexer.specs.Step.{Step}
+use Rattle.std.specs.Prelude.{ℕ, zero, suc, ◌-◌, List, length, Some, None, Ok, Err}
 use Rattle.refusal.specs.declared.Span.{Span}
 use Rattle.refusal.specs.declared.Refusal.{Refusal}
 use Rattle.mode.specs.declared.Mode.{Mode}
 use Rattle.lexer.specs.declared.Token.{Token}
-use Rattle.lexer.specs.declared.Step.{Step}
-use Rattle.lexer.specs.declared.Step.TheVariants.{Got, Done, Refused}
 use Rattle.lexer.specs.Lex.{scan_of, step_of}
 
 pub data Tokens : Type 0 where
@@ -16,9 +15,9 @@ pub data Tokens : Type 0 where
 
 -- a step's answer, and what `go` gives from the next cursor on
 abbrev pub and_then : Step → (ℕ → Tokens) → Tokens
-and_then (Got t sp nx) go = token t sp (go nx.at)
-and_then Done go = done
-and_then (Refused r) go = refused r
+and_then (Ok (Some g)) go = token g.token g.span (go g.next.at)
+and_then (Ok None) go = done
+and_then (Err r) go = refused r
 
 -- what a step gives, begun at a place and resumed from its own next cursor, in n steps at most
 unfoldable pub walked : (ℕ → Step) → ℕ → ℕ → Tokens

@@ -5,22 +5,14 @@ ghost use Rattle.std.specs.Prelude.{◌≡◌, ◌≤◌, ◌||◌, length, drop
 ghost use Rattle.text.specs.Text.{same};
 ghost use Rattle.text.specs.Runs.{ref_byte, run_byte};
 ghost use Rattle.text.specs.Walk.{one};
-ghost use Rattle.names.specs.Layout.{words};
-ghost use Rattle.lexer.specs.Lex.{run_end, ref_end, operator_of, unknown_of, word_of, got, told, run_of, mark_of, scan_of, check_of, from_of, step_of};
+ghost use Rattle.text.specs.WalkLaws.{one_fits};
+ghost use Rattle.lexer.specs.Lex.{run_end, ref_end, operator_of, unknown_of, word_of, got, run_of, mark_of, scan_of, check_of, from_of, step_of};
 ghost use Rattle.lexer.specs.Shape.{listed_of, named_of, document_of, ref_at, referred_of, loose_of, other_of};
 
 pub use mode::Mode;
-use names::{Found, Loose};
 use refusal::{Refusal, Span};
 
-// The document part of a reference: the range of its name.
-#[derive(Clone, Copy)]
-pub enum Doc {
-    Absent,
-    Part(Span),
-}
-
-// A listed name is its place among the licences or the exceptions, a reference the ranges of its names.
+// A listed name is its place among the licences or the exceptions, a reference the ranges of its names: of its document part, if it has one, and its own.
 #[derive(Clone, Copy)]
 pub enum Token {
     And,
@@ -31,8 +23,8 @@ pub enum Token {
     Close,
     Licence(usize),
     Exception(usize),
-    LicenseRef { doc: Doc, name: Span },
-    AdditionRef { doc: Doc, name: Span },
+    LicenseRef { doc: Option<Span>, name: Span },
+    AdditionRef { doc: Option<Span>, name: Span },
     Unknown(Span),
 }
 
@@ -43,40 +35,21 @@ pub struct Cursor {
     pub at: usize,
 }
 
-// The answer of a step. A refusal gives no next cursor.
+// What a step found: a token, where it stands, and the next cursor.
 #[derive(Clone, Copy)]
-pub enum Step {
-    Got {
-        token: Token,
-        span: Span,
-        next: Cursor,
-    },
-    Done,
-    Refused(Refusal),
+pub struct Got {
+    pub token: Token,
+    pub span: Span,
+    pub next: Cursor,
 }
 
-// What a try says of a run: its token and where that ends, or nothing.
-#[derive(Clone, Copy)]
-pub enum Word {
-    Is(Token, usize),
-    Not,
-}
-
-// Whether a text may be read at all.
-#[derive(Clone, Copy)]
-pub enum Checked {
-    Fine,
-    Bad(Refusal),
-}
+// The answer of a step: nothing where the text has ended. A refusal gives no next cursor.
+pub type Step = Result<Option<Got>, Refusal>;
 
 fn ref_byte(b: u8) -> bool
     ensures { result ≡ ref_byte b }
 {
-    text::between(b'0', b'9', b)
-        | text::between(b'A', b'Z', b)
-        | text::between(b'a', b'z', b)
-        | (b == b'-')
-        | (b == b'.')
+    b.is_ascii_alphanumeric() | (b == b'-') | (b == b'.')
 }
 
 fn run_byte(b: u8) -> bool
@@ -85,249 +58,203 @@ fn run_byte(b: u8) -> bool
     ref_byte(b) | (b == b':')
 }
 
-fn ref_width(s: &[u8], at: usize) -> usize
-    ensures { result ≡ one ref_byte (drop at s.now) }
-{
-    if ref_byte(text::byte(s, at)) { 1 } else { 0 }
+// A walk over the bytes of a reference's name.
+struct RefBytes;
+
+impl text::Step for RefBytes {
+    ghost width = { one ref_byte };
+
+    fn width_at(s: &[u8], at: usize) -> usize {
+        usize::from(ref_byte(text::byte(s, at)))
+    }
+
+    ghost fits = { one_fits ref_byte };
 }
 
-fn run_width(s: &[u8], at: usize) -> usize
-    ensures { result ≡ one run_byte (drop at s.now) }
-{
-    if run_byte(text::byte(s, at)) { 1 } else { 0 }
+// A walk over the bytes of a run.
+struct RunBytes;
+
+impl text::Step for RunBytes {
+    ghost width = { one run_byte };
+
+    fn width_at(s: &[u8], at: usize) -> usize {
+        usize::from(run_byte(text::byte(s, at)))
+    }
+
+    ghost fits = { one_fits run_byte };
 }
 
 // Where the reference's name that starts at a place ends.
+#[tactic(auto, unfolding(crate::specs::Lex::ref_end))]
 fn ref_end(s: &[u8], from: usize) -> usize
     ensures { result ≡ ref_end s.now from }
 {
-    let mut at = from;
-    loop {
-        let w = ref_width(s, at);
-        if w == 0 {
-            return at;
-        }
-        at += w;
-    }
+    text::walk::<RefBytes>(s, from)
 }
 
 // Where the run that starts at a place ends.
+#[tactic(auto, unfolding(crate::specs::Lex::run_end))]
 fn run_end(s: &[u8], from: usize) -> usize
     ensures { result ≡ run_end s.now from }
 {
-    let mut at = from;
-    loop {
-        let w = run_width(s, at);
-        if w == 0 {
-            return at;
-        }
-        at += w;
-    }
+    text::walk::<RunBytes>(s, from)
 }
 
-// Is a run spelled in one of two ways?
-fn spelled(run: &[u8], upper: &[u8], lower: &[u8]) -> bool
-    ensures { result ≡ (same run.now upper.now || same run.now lower.now) }
-{
-    text::equal(run, upper) | text::equal(run, lower)
-}
-
-fn operator(run: &[u8], e: usize) -> Word
+#[tactic(auto, using(std::proofs::lemmas::Bool::Decides::nat_tests), unfolding(crate::specs::Lex::operator_of, text::specs::Text::same))]
+fn operator(run: &[u8], e: usize) -> Option<(Token, usize)>
     ensures { result ≡ operator_of run.now e }
 {
-    if spelled(run, b"AND", b"and") {
-        return Word::Is(Token::And, e);
+    match run {
+        b"AND" | b"and" => Some((Token::And, e)),
+        b"OR" | b"or" => Some((Token::Or, e)),
+        b"WITH" | b"with" => Some((Token::With, e)),
+        _ => None,
     }
-    if spelled(run, b"OR", b"or") {
-        return Word::Is(Token::Or, e);
-    }
-    if spelled(run, b"WITH", b"with") {
-        return Word::Is(Token::With, e);
-    }
-    Word::Not
 }
 
 // A licence, else an exception.
-fn listed(t: &[u64], run: &[u8], e: usize) -> Word
-    requires { t.now ≡ words }
+fn listed(run: &[u8], e: usize) -> Option<(Token, usize)>
     ensures { result ≡ listed_of run.now e }
 {
-    if let Found::At(k) = names::licence(t, run) {
-        return Word::Is(Token::Licence(k), e);
+    if let Some(k) = names::licence(run) {
+        return Some((Token::Licence(k), e));
     }
-    if let Found::At(k) = names::exception(t, run) {
-        return Word::Is(Token::Exception(k), e);
+    if let Some(k) = names::exception(run) {
+        return Some((Token::Exception(k), e));
     }
-    Word::Not
+    None
 }
 
 // What is known by the run's bytes alone.
-fn named(t: &[u64], run: &[u8], e: usize) -> Word
-    requires { t.now ≡ words }
+fn named(run: &[u8], e: usize) -> Option<(Token, usize)>
     ensures { result ≡ named_of run.now e }
 {
-    let w = operator(run, e);
-    match w {
-        Word::Is(_, _) => w,
-        Word::Not => listed(t, run, e),
-    }
+    operator(run, e).or_else(|| listed(run, e))
 }
 
 // The document part in front of a reference: a run is split at its first `:`.
-fn document(s: &[u8], p: usize) -> Doc
+fn document(s: &[u8], p: usize) -> Option<Span>
     ensures { result ≡ document_of s.now p }
 {
     if text::stands(b"DocumentRef-", s, p) {
         let e = ref_end(s, p);
         if text::byte(s, e) == b':' {
-            return Doc::Part(Span {
+            return Some(Span {
                 start: p + 12,
                 end: e,
             });
         }
     }
-    Doc::Absent
+    None
 }
 
 // The reference at a place, behind its document part.
-fn ref_at(s: &[u8], q: usize, d: Doc) -> Word
-    ensures { result ≡ ref_at s.now q d }
+fn ref_at(s: &[u8], q: usize, doc: Option<Span>) -> Option<(Token, usize)>
+    ensures { result ≡ ref_at s.now q doc }
 {
     if text::stands(b"LicenseRef-", s, q) {
-        let e = ref_end(s, q + 11);
-        return Word::Is(
-            Token::LicenseRef {
-                doc: d,
-                name: Span {
-                    start: q + 11,
-                    end: e,
-                },
-            },
-            e,
-        );
+        let start = q + 11;
+        let end = ref_end(s, start);
+        let name = Span { start, end };
+        return Some((Token::LicenseRef { doc, name }, end));
     }
     if text::stands(b"AdditionRef-", s, q) {
-        let e = ref_end(s, q + 12);
-        return Word::Is(
-            Token::AdditionRef {
-                doc: d,
-                name: Span {
-                    start: q + 12,
-                    end: e,
-                },
-            },
-            e,
-        );
+        let start = q + 12;
+        let end = ref_end(s, start);
+        let name = Span { start, end };
+        return Some((Token::AdditionRef { doc, name }, end));
     }
-    Word::Not
+    None
 }
 
-fn reference(s: &[u8], p: usize) -> Word
+fn reference(s: &[u8], p: usize) -> Option<(Token, usize)>
     ensures { result ≡ referred_of s.now p }
 {
-    let d = document(s, p);
-    match d {
-        Doc::Absent => ref_at(s, p, d),
-        Doc::Part(part) => ref_at(s, part.end + 1, d),
+    let doc = document(s, p);
+    match doc {
+        Some(part) => ref_at(s, part.end + 1, doc),
+        None => ref_at(s, p, None),
     }
 }
 
-fn unknown(m: Mode, p: usize, e: usize) -> Word
+fn unknown(m: Mode, p: usize, e: usize) -> Option<(Token, usize)>
     ensures { result ≡ unknown_of m p e }
 {
     if m.unknown {
-        Word::Is(Token::Unknown(Span { start: p, end: e }), e)
+        Some((Token::Unknown(Span { start: p, end: e }), e))
     } else {
-        Word::Not
+        None
     }
 }
 
 // An imprecise name, else an unknown term, each if the mode allows it.
-fn loose(t: &[u64], m: Mode, s: &[u8], p: usize, e: usize) -> Word
-    requires { t.now ≡ words }
+fn loose(m: Mode, s: &[u8], p: usize, e: usize) -> Option<(Token, usize)>
     ensures { result ≡ loose_of s.now m p e }
 {
     if m.imprecise {
-        if let Loose::Hit { licence, len } = names::imprecise(t, s, p) {
-            return Word::Is(Token::Licence(licence), p + len);
+        if let Some(name) = names::imprecise(s, p) {
+            return Some((Token::Licence(name.licence), p + name.len));
         }
     }
     unknown(m, p, e)
 }
 
 // What a run is that is no name by its bytes alone.
-fn other(t: &[u64], m: Mode, s: &[u8], p: usize, e: usize) -> Word
-    requires { t.now ≡ words }
+fn other(m: Mode, s: &[u8], p: usize, e: usize) -> Option<(Token, usize)>
     ensures { result ≡ other_of s.now m p e }
 {
-    let w = reference(s, p);
-    match w {
-        Word::Is(_, _) => w,
-        Word::Not => loose(t, m, s, p, e),
-    }
+    reference(s, p).or_else(|| loose(m, s, p, e))
 }
 
-// The run from p to e.
-fn known(t: &[u64], m: Mode, s: &[u8], p: usize, e: usize) -> Word
-    requires { (t.now ≡ words) × (p ≤ e) × (e ≤ length s.now) }
+// The run from p to e: its token and where that ends, or nothing.
+fn known(m: Mode, s: &[u8], p: usize, e: usize) -> Option<(Token, usize)>
+    requires { (p ≤ e) × (e ≤ length s.now) }
     ensures { result ≡ word_of s.now m p e }
 {
-    let w = named(t, &s[p..e], e);
-    match w {
-        Word::Is(_, _) => w,
-        Word::Not => other(t, m, s, p, e),
-    }
+    named(&s[p..e], e).or_else(|| other(m, s, p, e))
 }
 
-// The token from a to e, and the cursor behind it.
-fn emit(m: Mode, token: Token, a: usize, e: usize) -> Step
-    ensures { result ≡ got m token a e }
+// The token from start to end, and the cursor behind it.
+fn emit(mode: Mode, token: Token, start: usize, end: usize) -> Step
+    ensures { result ≡ got mode token start end }
 {
-    Step::Got {
-        token: token,
-        span: Span { start: a, end: e },
-        next: Cursor { mode: m, at: e },
-    }
+    Ok(Some(Got {
+        token,
+        span: Span { start, end },
+        next: Cursor { mode, at: end },
+    }))
 }
 
-// The answer to a run from p to e, by what its tries said.
-fn tell(m: Mode, p: usize, e: usize, w: Word) -> Step
-    ensures { result ≡ told m p e w }
-{
-    match w {
-        Word::Is(token, end) => emit(m, token, p, end),
-        Word::Not => Step::Refused(Refusal::UnknownTerm(Span { start: p, end: e })),
-    }
-}
-
-fn run(t: &[u64], m: Mode, s: &[u8], p: usize) -> Step
-    requires { (t.now ≡ words) × (p ≤ length s.now) }
+fn run(m: Mode, s: &[u8], p: usize) -> Step
+    requires { p ≤ length s.now }
     ensures { result ≡ run_of s.now m p }
 {
     let e = run_end(s, p);
     if e == p {
-        return Step::Refused(Refusal::InvalidCharacters(Span {
+        return Err(Refusal::InvalidCharacters(Span {
             start: p,
             end: s.len(),
         }));
     }
-    tell(m, p, e, known(t, m, s, p, e))
+    match known(m, s, p, e) {
+        Some((token, end)) => emit(m, token, p, end),
+        None => Err(Refusal::UnknownTerm(Span { start: p, end: e })),
+    }
 }
 
 // What stands at p, where the white space from `at` on ends.
-fn mark(t: &[u64], m: Mode, s: &[u8], at: usize, p: usize) -> Step
-    requires { t.now ≡ words }
+fn mark(m: Mode, s: &[u8], at: usize, p: usize) -> Step
     ensures { result ≡ mark_of s.now m at p }
 {
     if s.len() <= p {
-        return Step::Done;
+        return Ok(None);
     }
     let b = s[p];
     if b == b'+' {
         if p == at {
             return emit(m, Token::Plus, p, p + 1);
         }
-        return Step::Refused(Refusal::SeparatedPlus(Span { start: at, end: p }));
+        return Err(Refusal::SeparatedPlus(Span { start: at, end: p }));
     }
     if b == b'(' {
         return emit(m, Token::Open, p, p + 1);
@@ -338,32 +265,29 @@ fn mark(t: &[u64], m: Mode, s: &[u8], at: usize, p: usize) -> Step
     if (b == b'/') & m.slash {
         return emit(m, Token::Or, p, p + 1);
     }
-    run(t, m, s, p)
+    run(m, s, p)
 }
 
 // The step in a text that was checked, from a place between two characters: who reads a whole text checks it once.
-pub fn scan(t: &[u64], m: Mode, s: &[u8], at: usize) -> Step
-    requires { t.now ≡ words }
+pub fn scan(m: Mode, s: &[u8], at: usize) -> Step
     ensures { result ≡ scan_of s.now m at }
 {
-    mark(t, m, s, at, utf8::past_white(s, at))
+    mark(m, s, at, utf8::past_white(s, at))
 }
 
 // May a text be read: at most 1,024 bytes of well-formed UTF-8?
-pub fn check(s: &[u8]) -> Checked
+pub fn check(s: &[u8]) -> Result<(), Refusal>
     ensures { result ≡ check_of s.now }
 {
     if 1024 < s.len() {
-        return Checked::Bad(Refusal::TooLong);
+        return Err(Refusal::TooLong);
     }
-    let p = utf8::first_ill(s);
-    if p < s.len() {
-        return Checked::Bad(Refusal::NotUtf8(Span {
-            start: p,
-            end: p + 1,
-        }));
+    let start = utf8::first_ill(s);
+    if start < s.len() {
+        let end = start + 1;
+        return Err(Refusal::NotUtf8(Span { start, end }));
     }
-    Checked::Fine
+    Ok(())
 }
 
 // The step in a text that was checked, from any place.
@@ -371,10 +295,9 @@ fn from(m: Mode, s: &[u8], at: usize) -> Step
     ensures { result ≡ from_of s.now m at }
 {
     if (s.len() < at) | utf8::inside(s, at) {
-        return Step::Refused(Refusal::BadCursor(at as u64));
+        return Err(Refusal::BadCursor(at as u64));
     }
-    let t = names::table::table();
-    scan(&t, m, s, at)
+    scan(m, s, at)
 }
 
 impl Cursor {
@@ -382,11 +305,7 @@ impl Cursor {
     pub fn step(self, s: &[u8]) -> Step
         ensures { result ≡ step_of s.now self.mode self.at }
     {
-        let mode = self.mode;
-        let at = self.at;
-        match check(s) {
-            Checked::Bad(r) => Step::Refused(r),
-            Checked::Fine => from(mode, s, at),
-        }
+        check(s)?;
+        from(self.mode, s, self.at)
     }
 }

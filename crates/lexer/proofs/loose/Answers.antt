@@ -9,12 +9,12 @@ use Rattle.lexer.proofs.loose.Goals.{then-m+in_default, else-m}
 pub overflow_add-result : goal.overflow_add-result
 overflow_add-result c =
     let a = c.args in
-    let h = imprecise_fits (drop a.p a.s.now) _ _ (sym c.imprecise.ensures ∙ c.in-Hit.is) in
+    let h = imprecise_fits (drop a.p a.s.now) _ (sym c.imprecise.ensures ∙ c.in-Some.is) in
     omega (arith, h.fits, length-drop a.p a.s.now)
 
-pub returns-in-Hit : goal.returns-in-Hit
+pub returns-in-Some : goal.returns-in-Some
 unfolding loose_of imprecise_at
-returns-in-Hit c = simp (c.if-m.true, ← c.imprecise.ensures, c.in-Hit.is)
+returns-in-Some c = simp (c.if-m.true, ← c.imprecise.ensures, c.in-Some.is)
 
 pub returns : goal.returns
 unfolding loose_of imprecise_at
