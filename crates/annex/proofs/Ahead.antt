@@ -1,21 +1,17 @@
 -- Which token stands where a sign does, what a token is where an operand has ended, the two operators, and how many leaves nodes have.
-use Rattle.std.specs.Prelude.{◌≡◌, refl, List, [], ◌∷◌, ◌++◌, ℕ, ◌+◌}
+use Rattle.std.specs.Prelude.{◌≡◌, refl, List, [], ◌∷◌, ◌++◌, ℕ, ◌+◌, None, Option}
 use Rattle.std.proofs.Common.{ap, subst, ◌∙◌, arith}
-use Rattle.std.proofs.Math.Option.{Option, none}
 use Rattle.refusal.specs.declared.Span.{Span}
 use Rattle.refusal.specs.declared.Refusal.{Refusal}
-use Rattle.lexer.specs.declared.Doc.{Doc}
 use Rattle.lexer.specs.declared.Token.{Token}
 use Rattle.lexer.specs.declared.Token.TheVariants as T
 use Rattle.lexer.specs.Tokens.{Tokens, done, token}
 use Rattle.lexer.specs.Tokens as Lexed
 use Rattle.lexer.specs.Sign.{Sign, name, reference, unknown, exception, addition, plus, WITH, AND, OR, LP, RP, bad}
 use Rattle.grammar.specs.declared.Leaf.{Leaf}
-use Rattle.grammar.specs.declared.Kind.{Kind}
-use Rattle.grammar.specs.declared.Kind.TheVariants as K
+use Rattle.grammar.specs.declared.Node.TheVariants as K
 use Rattle.grammar.specs.declared.Node.{Node}
 use Rattle.grammar.specs.declared.Before.{Before}
-use Rattle.grammar.specs.declared.Part.TheVariants as P
 use Rattle.grammar.specs.declared.Link.{Link}
 use Rattle.grammar.specs.declared.Link.TheVariants as N
 use Rattle.grammar.specs.Leaves.{range_of, part_of}
@@ -38,10 +34,10 @@ module _ {R S : Type 0} (v : View R S) where
   abbrev pub Ahead : List (Sign R S) → Tokens → Type 0
   Ahead [] ts = ts ≡ done
   Ahead (name k p ∷ r) ts = Placed (T.Licence k) ts p r
-  Ahead (reference x p ∷ r) ts = (d : Doc) × (n : Span) × (v.ref (part_of d) (range_of n) ≡ x) × Placed (T.LicenseRef d n) ts p r
-  Ahead (unknown x p ∷ r) ts = (n : Span) × (v.ref P.Absent (range_of n) ≡ x) × Placed (T.Unknown n) ts p r
+  Ahead (reference x p ∷ r) ts = (d : Option Span) × (n : Span) × (v.ref (part_of d) (range_of n) ≡ x) × Placed (T.LicenseRef d n) ts p r
+  Ahead (unknown x p ∷ r) ts = (n : Span) × (v.ref None (range_of n) ≡ x) × Placed (T.Unknown n) ts p r
   Ahead (exception k ∷ r) ts = Then (T.Exception k) ts r
-  Ahead (addition x ∷ r) ts = (d : Doc) × (n : Span) × (v.ref (part_of d) (range_of n) ≡ x) × Then (T.AdditionRef d n) ts r
+  Ahead (addition x ∷ r) ts = (d : Option Span) × (n : Span) × (v.ref (part_of d) (range_of n) ≡ x) × Then (T.AdditionRef d n) ts r
   Ahead (plus ∷ r) ts = Then T.Plus ts r
   Ahead (WITH ∷ r) ts = Then T.With ts r
   Ahead (AND ∷ r) ts = Then T.And ts r
@@ -98,7 +94,7 @@ pub data Op : Type 0 where
 -- what they differ in: `lower` is the level to the left, `upper` the one to the right and of the whole; `tail` reads on behind a `lower`
 pub record Shape : Type 0 where
   pub token : Token
-  pub kind : Kind
+  pub kind : Node
   pub lower : Level
   pub upper : Level
   pub next : Tokens → Option Tokens
@@ -123,14 +119,14 @@ module _ (right : Reader) (d : ℕ) where
   tail_met by_and q b sp us = refl
   tail_met by_or q b sp us = refl
 
-  pub tail_unmet : (w : Op) (q : List Node) (b : Before) (ts : Tokens) → (of w).next ts ≡ none → (of w).tail right d (got q b ts) ≡ got q b ts
+  pub tail_unmet : (w : Op) (q : List Node) (b : Before) (ts : Tokens) → (of w).next ts ≡ None → (of w).tail right d (got q b ts) ≡ got q b ts
   tail_unmet by_and q b ts h = rw h refl
   tail_unmet by_or q b ts h = rw h refl
 
 -- tokens begin with an operator, or do not
 pub data Meets (w : Op) : Tokens → Type 0 where
   met : {sp : Span} {us : Tokens} → Meets w (token (of w).token sp us)
-  unmet : {ts : Tokens} → (of w).next ts ≡ none → Meets w ts
+  unmet : {ts : Tokens} → (of w).next ts ≡ None → Meets w ts
 
 pub meets : (w : Op) (ts : Tokens) → Meets w ts
 meets by_and done = unmet refl

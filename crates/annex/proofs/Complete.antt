@@ -1,7 +1,6 @@
 -- What derives reads: a level that stands before signs that derive a tree answers the tree's nodes, or that a limit is passed.
-use Rattle.std.specs.Prelude.{◌≡◌, refl, Bool, true, false, List, [], ◌∷◌, ◌++◌, ℕ, suc, ◌+◌, ◌≤◌, max, ltb}
+use Rattle.std.specs.Prelude.{◌≡◌, refl, Bool, true, false, List, [], ◌∷◌, ◌++◌, ℕ, suc, ◌+◌, ◌≤◌, max, ltb, None}
 use Rattle.std.proofs.Common.{sym, ap, subst, ◌∙◌, append_assoc, inl, inr, arith, ltb-false}
-use Rattle.std.proofs.Math.Option.{none}
 use Rattle.refusal.specs.Refused.{number_of}
 use Rattle.refusal.specs.declared.Span.{Span}
 use Rattle.refusal.specs.declared.Refusal.TheVariants.{TooManyLeaves, TooDeep}
@@ -10,9 +9,9 @@ use Rattle.lexer.specs.declared.Token.TheVariants as T
 use Rattle.lexer.specs.Tokens.{Tokens}
 use Rattle.lexer.specs.Sign.{Sign, AND, OR, LP, RP}
 use Rattle.grammar.specs.declared.Leaf.{Leaf}
-use Rattle.grammar.specs.declared.Kind.TheVariants as K
+use Rattle.grammar.specs.declared.Node.TheVariants as K
 use Rattle.grammar.specs.declared.Node.{Node}
-use Rattle.grammar.specs.Tree.{Tree, just, both, either, node_of, postfix, size, seen, leaves}
+use Rattle.grammar.specs.Tree.{Tree, just, both, either, postfix, size, seen, leaves}
 use Rattle.grammar.specs.Grammar.{Result, got, refused, Reader, pick, emit, close, count, atom_at, and_level, or_level}
 use Rattle.grammar.proofs.Levels.{and_eq, or_eq}
 use Rattle.annex.specs.Annex.{Item, Level, Atom, AndLevel, OrLevel, Derives, leaf, group, alone, joined, one, choice, depth}
@@ -46,7 +45,7 @@ module _ {R S : Type 0} (v : View R S) (m : Mode) (e c : ℕ) where
   No by_and x = NoAnd x
   No by_or x = NoOr x
 
-  no_next : (w : Op) {ts : Tokens} → Meets w ts → Head (No w) (signs_of v ts) → (of w).next ts ≡ none
+  no_next : (w : Op) {ts : Tokens} → Meets w ts → Head (No w) (signs_of v ts) → (of w).next ts ≡ None
   no_next by_and met h = absurd h
   no_next by_or met h = absurd h
   no_next w (unmet x) h = x
@@ -56,7 +55,7 @@ module _ {R S : Type 0} (v : View R S) (m : Mode) (e c : ℕ) where
   on_leaf i d q ts rest b x = rw x.at (rw x.starts (rw x.ends (go (ltb (leaves q) 64) refl)))
     where
       go : (z : Bool) → ltb (leaves q) 64 ≡ z
-          → Answers v c (just i) 0 q d rest (pick z (got (q ++ (node_of (K.Leaf x.leaf) ∷ [])) x.before x.rest) (refused (TooManyLeaves x.span)))
+          → Answers v c (just i) 0 q d rest (pick z (got (q ++ (K.Leaf x.leaf ∷ [])) x.before x.rest) (refused (TooManyLeaves x.span)))
       go true h = (just x.leaf, refl, ap just x.same, omega (arith, x.fewer), x.then)
       go false h = inl (refl, omega (arith, ltb-false (leaves q) 64 h))
 

@@ -1,6 +1,7 @@
 -- Every refusal of a text's tokens has its reason: the tokens before the place where the reader stopped begin an expression, and there is why
 -- it goes no further. The lexer's are 3, 4 and 5 alone, so that 6 says what document 01 has it say.
-use Rattle.std.specs.Prelude.{◌≡◌, refl, List, [], ◌∷◌, ◌++◌, ◌⊎◌, ℕ, zero, suc, ◌-◌, ◌≤◌, length}
+use Rattle.lexer.specs.Step.{Step}
+use Rattle.std.specs.Prelude.{◌≡◌, refl, List, [], ◌∷◌, ◌++◌, ◌⊎◌, ℕ, zero, suc, ◌-◌, ◌≤◌, length, Ok}
 use Rattle.std.proofs.Common.{sym, ap, subst, ◌∙◌, inl, inr, arith}
 use Rattle.utf8.specs.Utf8.{past_white}
 use Rattle.refusal.specs.Refused.{span, number_of}
@@ -9,8 +10,6 @@ use Rattle.refusal.specs.declared.Expected.{Expected}
 use Rattle.refusal.specs.declared.Refusal.{Refusal}
 use Rattle.refusal.specs.declared.Refusal.TheVariants.{Unexpected}
 use Rattle.mode.specs.declared.Mode.{Mode}
-use Rattle.lexer.specs.declared.Checked.TheVariants.{Fine}
-use Rattle.lexer.specs.declared.Step.{Step}
 use Rattle.lexer.specs.declared.Token.{Token}
 use Rattle.lexer.specs.Lex.{scan_of, check_of}
 use Rattle.lexer.proofs.Ahead.{Answer, ended, mark, word, invalid, unknown, apart, scan_answer}
@@ -23,7 +22,7 @@ use Rattle.annex.specs.Faults.{Begins, Dead, Not, set_after, Split, here, next, 
 use Rattle.annex.proofs.Judge.{Blamed, blamed}
 
 -- the reason of a refusal; 9 is that there is no token
-pub faults : {R S : Type 0} (v : View R S) (s : List ℕ) (m : Mode) (r : Refusal) → check_of s ≡ Fine → parse_of s m ≡ refused r
+pub faults : {R S : Type 0} (v : View R S) (s : List ℕ) (m : Mode) (r : Refusal) → check_of s ≡ (Ok tt) → parse_of s m ≡ refused r
     → Fault v m (length s) (tokens_of s m 0) r
 unfolding parse_of
 faults v s m r h e =
@@ -71,7 +70,7 @@ stop_six sp x f (unended h n) = (refl, inr (h, refl, n))
 
 -- 6: the tokens before the place where the reader stopped begin an expression, the set is that of the last of them, and it stops there for no
 -- other reason than these two
-pub fault_six : {R S : Type 0} (v : View R S) (s : List ℕ) (m : Mode) (sp : Span) (x : Expected) → check_of s ≡ Fine
+pub fault_six : {R S : Type 0} (v : View R S) (s : List ℕ) (m : Mode) (sp : Span) (x : Expected) → check_of s ≡ (Ok tt)
     → parse_of s m ≡ refused (Unexpected sp x)
     → (b : List (Sign R S)) × (ts : Tokens) × Split v (tokens_of s m 0) b ts × Begins m b × (x ≡ set_after b) × Stop v m (length s) sp b ts
 fault_six v s m sp x h e =

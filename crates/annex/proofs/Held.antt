@@ -1,6 +1,7 @@
 -- The reader by levels, held against the annex: what reads is an expression within the limits, and its nodes are the tree's; an expression within
 -- the limits reads, to its tree; a refusal says that there is no expression, or which limit is passed.
-use Rattle.std.specs.Prelude.{◌≡◌, length}
+use Rattle.std.specs.Prelude.{◌≡◌, length, Ok, Err, ⊤}
+use Rattle.std.specs.Prelude as Std
 use Rattle.std.proofs.Math.Path.{refl}
 use Rattle.std.proofs.Common.{sym, ap, subst, ◌∙◌, inl, inr, arith}
 use mathlib.Core.List.{List, [], append-nil}
@@ -10,8 +11,6 @@ use Rattle.refusal.specs.Refused.{number_of}
 use Rattle.refusal.specs.declared.Refusal.{Refusal}
 use Rattle.refusal.specs.declared.Refusal.TheVariants.{UnopenedParens}
 use Rattle.mode.specs.declared.Mode.{Mode}
-use Rattle.lexer.specs.declared.Checked.{Checked}
-use Rattle.lexer.specs.declared.Checked.TheVariants.{Fine, Bad}
 use Rattle.lexer.specs.Lex.{check_of}
 use Rattle.lexer.specs.Tokens.{Tokens, done, token, tokens_of}
 use Rattle.lexer.specs.Tokens as Lexed
@@ -80,18 +79,18 @@ module _ {R S : Type 0} (v : View R S) (m : Mode) where
 
 module _ {R S : Type 0} (v : View R S) (s : List ℕ) (m : Mode) where
   -- the reader, of every text that is checked
-  pub held : check_of s ≡ Fine → Says v m (signs_of v (tokens_of s m 0)) (parse_of s m)
+  pub held : check_of s ≡ (Ok tt) → Says v m (signs_of v (tokens_of s m 0)) (parse_of s m)
   unfolding parse_of
   held h = rw h (says v m (length s) (tokens_of s m 0))
 
   -- what reads is checked
-  pub reads_fine : {q : List Node} {b : Before} {ts : Tokens} → parse_of s m ≡ got q b ts → check_of s ≡ Fine
+  pub reads_fine : {q : List Node} {b : Before} {ts : Tokens} → parse_of s m ≡ got q b ts → check_of s ≡ (Ok tt)
   unfolding parse_of
   reads_fine {q} {b} {ts} h = go (check_of s) h
     where
-      go : (c : Checked) → read_if m s c ≡ got q b ts → c ≡ Fine
-      go Fine h = refl
-      go (Bad r) h = clash (cc)
+      go : (c : Std.Result ⊤ Refusal) → read_if m s c ≡ got q b ts → c ≡ (Ok tt)
+      go (Ok tt) h = refl
+      go (Err r) h = clash (cc)
 
   -- what reads is the tree of the signs, all of them used, within the limits
   pub reads_derive : {q : List Node} {b : Before} {ts : Tokens} → parse_of s m ≡ got q b ts
@@ -99,7 +98,7 @@ module _ {R S : Type 0} (v : View R S) (s : List ℕ) (m : Mode) where
   reads_derive h = subst (Says v m (signs_of v (tokens_of s m 0))) h (held (reads_fine h))
 
   -- what is the tree of the signs, within the limits, is what reads
-  pub derives_reads : check_of s ≡ Fine → {t : Tree (Item R S)} → Fits m (signs_of v (tokens_of s m 0)) t
+  pub derives_reads : check_of s ≡ (Ok tt) → {t : Tree (Item R S)} → Fits m (signs_of v (tokens_of s m 0)) t
       → (u : Tree Leaf) × (b : Before) × (ts : Tokens) × (parse_of s m ≡ got (postfix u) b ts) × (seen (item_of v) u ≡ t)
   derives_reads h {t} f = go (parse_of s m) refl (held h)
     where
@@ -109,18 +108,18 @@ module _ {R S : Type 0} (v : View R S) (s : List ℕ) (m : Mode) where
       go (refused r) p w = absurd (⊎_elim (λ x. omega (arith, f.few)) (λ x. omega (arith, f.flat)) (w t f.derives))
 
   -- a refusal whose number is neither 14 nor 15: the signs are no expression
-  pub refused_none : check_of s ≡ Fine → {r : Refusal} → parse_of s m ≡ refused r → (number_of r ≡ 14 → ⊥) → (number_of r ≡ 15 → ⊥)
+  pub refused_none : check_of s ≡ (Ok tt) → {r : Refusal} → parse_of s m ≡ refused r → (number_of r ≡ 14 → ⊥) → (number_of r ≡ 15 → ⊥)
       → {t : Tree (Item R S)} → Expression m (signs_of v (tokens_of s m 0)) t → ⊥
   refused_none h p x y {t} d = ⊎_elim (λ w. x w.0) (λ w. y w.0) (subst (Says v m (signs_of v (tokens_of s m 0))) p (held h) t d)
 
   -- 14: whatever they are an expression of has more than 64 leaves
-  pub refused_leaves : check_of s ≡ Fine → {r : Refusal} → parse_of s m ≡ refused r → number_of r ≡ 14
+  pub refused_leaves : check_of s ≡ (Ok tt) → {r : Refusal} → parse_of s m ≡ refused r → number_of r ≡ 14
       → {t : Tree (Item R S)} → Expression m (signs_of v (tokens_of s m 0)) t → 64 < size t
   refused_leaves h p k {t} d =
       ⊎_elim (λ w. w.1) (λ w. absurd (omega (arith, w.0))) (subst (Says v m (signs_of v (tokens_of s m 0))) p (held h) t d)
 
   -- 15: more than 32 parentheses are open at once
-  pub refused_depth : check_of s ≡ Fine → {r : Refusal} → parse_of s m ≡ refused r → number_of r ≡ 15
+  pub refused_depth : check_of s ≡ (Ok tt) → {r : Refusal} → parse_of s m ≡ refused r → number_of r ≡ 15
       → {t : Tree (Item R S)} (x : Expression m (signs_of v (tokens_of s m 0)) t) → 32 < depth x
   refused_depth h p k {t} x =
       ⊎_elim (λ w. absurd (omega (arith, w.0))) (λ w. w.1) (subst (Says v m (signs_of v (tokens_of s m 0))) p (held h) t x)
@@ -132,7 +131,7 @@ module _ {R S : Type 0} (v : View R S) (s : List ℕ) (m : Mode) where
       record { tree = w.0; nodes = w.2; few = omega (arith, w.1.few, size_seen (item_of v) w.0) }
 
 -- two texts of the same signs, each seen in its own way: if one reads, the other, if it is checked, reads to a tree that is seen as the same
-pub reads_same : {R S : Type 0} (v w : View R S) (m : Mode) (s z : List ℕ) → signs_of v (tokens_of s m 0) ≡ signs_of w (tokens_of z m 0) → check_of z ≡ Fine
+pub reads_same : {R S : Type 0} (v w : View R S) (m : Mode) (s z : List ℕ) → signs_of v (tokens_of s m 0) ≡ signs_of w (tokens_of z m 0) → check_of z ≡ (Ok tt)
     → (t : Tree Leaf) {b : Before} {ts : Tokens} → parse_of s m ≡ got (postfix t) b ts
     → (u : Tree Leaf) × (c : Before) × (us : Tokens) × (parse_of z m ≡ got (postfix u) c us) × (seen (item_of w) u ≡ seen (item_of v) t)
 reads_same v w m s z h k t p =

@@ -1,17 +1,14 @@
 -- What the reader's answers say, by one induction: where it refuses, the tokens before begin an expression, and there is a reason to stop; where
 -- it answers nodes, the signs that it used derive a tree, and the nodes are the tree's. The proofs' machinery, nothing to believe.
-use Rattle.std.specs.Prelude.{◌≡◌, Bool, cond, ◌&&◌, List, [], ◌∷◌, ◌++◌, ltb}
+use Rattle.std.specs.Prelude.{◌≡◌, Bool, cond, ◌&&◌, List, [], ◌∷◌, ◌++◌, ltb, Some, None, Option, Ok, Err}
 use Rattle.std.proofs.Math.Path.{refl, subst}
 use Rattle.std.proofs.Common.{sym, ap, ◌∙◌, append_assoc, append-nil, arith, add-one, ltb-true, ltb-false}
 use Rattle.std.proofs.Math.Bool.{true, false, not}
 use Rattle.std.proofs.lemmas.Bool.{false≢true}
-use Rattle.std.proofs.Math.Option.{Option, none, some}
 use Prim.Native.Nat.{ℕ, zero, suc, max, ◌+◌, ◌≤◌, ◌<◌}
 use Rattle.text.specs.Tests.{by_cond, cond_true, cond_false}
 use Rattle.text.specs.Tests as Tests
 use Rattle.names.specs.Lookup.{deprecated_of, gnu_of, is_later, later_of}
-use Rattle.names.specs.declared.Found.{Found}
-use Rattle.names.specs.declared.Found.TheVariants as F
 use Rattle.refusal.specs.Refused.{span}
 use Rattle.refusal.specs.declared.Span.{Span}
 use Rattle.refusal.specs.declared.Expected.{Expected}
@@ -19,22 +16,18 @@ use Rattle.refusal.specs.declared.Expected.TheVariants as E
 use Rattle.refusal.specs.declared.Refusal.{Refusal}
 use Rattle.refusal.specs.declared.Refusal.TheVariants.{Unexpected, TooManyLeaves, TooDeep}
 use Rattle.mode.specs.declared.Mode.{Mode}
-use Rattle.lexer.specs.declared.Doc.TheVariants as D
 use Rattle.lexer.specs.declared.Token.{Token}
 use Rattle.lexer.specs.declared.Token.TheVariants as T
 use Rattle.lexer.specs.Tokens.{Tokens, done, token}
 use Rattle.lexer.specs.Tokens as Lexed
 use Rattle.lexer.specs.Sign.{Sign, name, reference, unknown, exception, addition, WITH, AND, OR, LP, RP}
 use Rattle.grammar.specs.declared.Leaf.{Leaf}
-use Rattle.grammar.specs.declared.Part.TheVariants as P
-use Rattle.grammar.specs.declared.Kind.TheVariants as K
+use Rattle.grammar.specs.declared.Node.TheVariants as K
 use Rattle.grammar.specs.declared.Node.{Node}
 use Rattle.grammar.specs.declared.Before.{Before}
 use Rattle.grammar.specs.declared.Before.TheVariants.{Nothing, Joint, Listed, Term, Suffixed, With, Added, Closed}
 use Rattle.grammar.specs.declared.Start.{Start}
-use Rattle.grammar.specs.declared.Start.TheVariants as Start
-use Rattle.grammar.specs.declared.Move.{Move}
-use Rattle.grammar.specs.declared.Move.TheVariants.{Goes, Ends, Fails}
+use Rattle.grammar.specs.Move.{Move}
 use Rattle.grammar.specs.declared.Link.{Link}
 use Rattle.grammar.specs.declared.Link.TheVariants as N
 use Rattle.grammar.specs.Leaves.{
@@ -60,7 +53,7 @@ use Rattle.grammar.specs.Leaves.{
   broken,
   tail_of,
 }
-use Rattle.grammar.specs.Tree.{Tree, just, node_of, postfix, seen, leaves}
+use Rattle.grammar.specs.Tree.{Tree, just, postfix, seen, leaves}
 use Rattle.grammar.specs.TreeLaws.{leaves_append}
 use Rattle.grammar.specs.Grammar.{
   Result,
@@ -244,8 +237,8 @@ module _ {R S : Type 0} (v : View R S) (m : Mode) where
     -- no AND follows an and-level, no OR an or-level
     abbrev pub Stops : Level → Tokens → Type 0
     Stops Atom ts = Unit {0}
-    Stops AndLevel ts = and_next ts ≡ none
-    Stops OrLevel ts = (and_next ts ≡ none) × (or_next ts ≡ none)
+    Stops AndLevel ts = and_next ts ≡ None
+    Stops OrLevel ts = (and_next ts ≡ None) × (or_next ts ≡ None)
 
     -- what an answer of a level says
     abbrev pub Judged : Level → ℕ → List Node → Tokens → Text → Result → Type 0
@@ -258,10 +251,10 @@ module _ {R S : Type 0} (v : View R S) (m : Mode) where
 
     -- some operand: a reference
     some_item : Item R S
-    some_item = item (referred (v.ref P.Absent (record { start = 0; end = 0 }))) false (v.at (record { start = 0; end = 0 }))
+    some_item = item (referred (v.ref None (record { start = 0; end = 0 }))) false (v.at (record { start = 0; end = 0 }))
 
     some_ref : Sign R S
-    some_ref = reference (v.ref P.Absent (record { start = 0; end = 0 })) some_item.place
+    some_ref = reference (v.ref None (record { start = 0; end = 0 })) some_item.place
 
     some_group : Derives m Atom (LP ∷ some_ref ∷ RP ∷ []) (just some_item)
     unfolding some_ref some_item
@@ -301,10 +294,10 @@ module _ {R S : Type 0} (v : View R S) (m : Mode) where
 
       -- what a move says at the token t
       abbrev Moved : Before → Text → Token → Span → Tokens → Move → Type 0
-      Moved k s t sp us (Goes n j) =
+      Moved k s t sp us (Ok (Some (n, j))) =
           Stage j n (s ++ (sign_of v t sp ∷ [])) × (move_at d k (sign_of v t sp) ≡ mid d j) × (set_behind (sign_of v t sp) ≡ expected_after j)
-      Moved k s t sp us Ends = Over k × Shut k (token t sp us)
-      Moved k s t sp us (Fails r) = Blame r
+      Moved k s t sp us (Ok None) = Over k × Shut k (token t sp us)
+      Moved k s t sp us (Err r) = Blame r
 
       -- a reason behind the signs s of the leaf, which an addition would make whole
       inner : (s : Text) (l : Leaf) (us : Tokens) {r : Refusal} → Part s With l us → Reason v m e all (b ++ s) us r → Blame r
@@ -340,7 +333,7 @@ module _ {R S : Type 0} (v : View R S) (m : Mode) where
           let r : R = v.ref (part_of i) (range_of n) in
           (x.stage (addition r) [] (referred r) ref_one, refl, refl)
       add_moved s l sp us (T.Unknown n) x =
-          let r : R = v.ref P.Absent (range_of n) in
+          let r : R = v.ref None (range_of n) in
           let u : Sign R S = unknown r (v.at (range_of sp)) in
           ((x.stage u [] (referred r) term_one, (λ z a y. rw append_assoc (x.stage u z a (term_more y)))), refl, refl)
 
@@ -372,9 +365,9 @@ module _ {R S : Type 0} (v : View R S) (m : Mode) where
             begins = c.can s (just (item_of v l)) (leaf (bare (id i)));
           }
 
-          later : gnu_of k ≡ true → m.gnu_plus ≡ true → is_later k ≡ false → (f : Found) → later_of k ≡ f → M (later_move l sp f)
-          later g a y (F.At j) h = ((bare (gnu_later i g a y h), (λ z w q. with (gnu_later i g a y h) q)), refl, refl)
-          later g a y F.Nothing h = why (Faults.gnu_unlisted k p b refl refl g a y h)
+          later : gnu_of k ≡ true → m.gnu_plus ≡ true → is_later k ≡ false → (f : Option ℕ) → later_of k ≡ f → M (later_move l sp f)
+          later g a y (Some j) h = ((bare (gnu_later i g a y h), (λ z w q. with (gnu_later i g a y h) q)), refl, refl)
+          later g a y None h = why (Faults.gnu_unlisted k p b refl refl g a y h)
 
       -- behind an operand
       tail_moved : (k : Before) (o : Over k) (s : Text) (l : Leaf) (sp : Span) (us : Tokens) (t : Token) → Part s k l (token t sp us)
@@ -443,15 +436,15 @@ module _ {R S : Type 0} (v : View R S) (m : Mode) where
         where
           go : ((k : Before) (s : Text) (l : Leaf) → Part s k l us → Tailed (tail_of m e k l us)) → (w : Move) → Moved k s t sp us w
               → Tailed (moved k l (token t sp us) (λ n c. tail_of m e c n us) w)
-          go ih (Goes n j) y =
+          go ih (Ok (Some (n, j))) y =
               ih j (s ++ (sign_of v t sp ∷ [])) n (record {
                 split = split_append x.split (next here);
                 stage = y.0;
                 stands = subst (λ (z : Text). Stands z d j) (append_assoc b s (sign_of v t sp ∷ []))
                     (stands_on (sign_of v t sp) d j x.stands y.1 y.2);
               })
-          go ih Ends y = ends_whole k s l (token t sp us) x y.0 y.1
-          go ih (Fails r) y = y
+          go ih (Ok None) y = ends_whole k s l (token t sp us) x y.0 y.1
+          go ih (Err r) y = y
 
     -- a leaf
     leaf_judged : {d : ℕ} {q : List Node} {b : Text} (t : Token) (sp : Span) (us : Tokens) (l : Leaf) (k : Before)
@@ -467,7 +460,7 @@ module _ {R S : Type 0} (v : View R S) (m : Mode) where
             text = i.text;
             derives = leaf i.operand;
             nodes = refl;
-            few = omega (arith, leaves_append q (node_of (K.Leaf n) ∷ []));
+            few = omega (arith, leaves_append q (K.Leaf n ∷ []));
             flat = omega (arith, c.shallow);
             split = i.split;
             stands = i.stands;
@@ -526,8 +519,8 @@ module _ {R S : Type 0} (v : View R S) (m : Mode) where
 
         by : (t : Token) (sq : Span) (us' : Tokens) → Linked t → Inside (token t sq us') → Stops OrLevel (token t sq us')
             → Judged Atom d q (token T.Open sp us) b (close_by p k sq us' (link_of t))
-        by t sq us' an_and h i = let x : ◌≡◌ {A = Option Tokens} (some us') none = i.0 in clash (cc)
-        by t sq us' an_or h i = let x : ◌≡◌ {A = Option Tokens} (some us') none = i.1 in clash (cc)
+        by t sq us' an_and h i = let x : ◌≡◌ {A = Option Tokens} (Some us') None = i.0 in clash (cc)
+        by t sq us' an_or h i = let x : ◌≡◌ {A = Option Tokens} (Some us') None = i.1 in clash (cc)
         by t sq us' a_close h i = (
           record {
             tree = h.tree;
@@ -606,7 +599,7 @@ module _ {R S : Type 0} (v : View R S) (m : Mode) where
         leaf_judged (T.LicenseRef x n) sp us (ref_leaf x n sp) Suffixed c refl (bare ref, (λ z a y. with ref y)) refl refl
     atom_judged or d q (token (T.AdditionRef x n) sp us) b g c = early (T.AdditionRef x n) c refl
     atom_judged or d q (token (T.Unknown n) sp us) b g c =
-        leaf_judged (T.Unknown n) sp us (ref_leaf D.Absent n sp) Term c refl (bare term, (λ z a y. with term y)) refl refl
+        leaf_judged (T.Unknown n) sp us (ref_leaf None n sp) Term c refl (bare term, (λ z a y. with term y)) refl refl
 
     -- an operator's sign behind an ended operand
     op_sign : (w : Op) (sp : Span) (k : Before) → Over k → (d : ℕ)
@@ -629,7 +622,7 @@ module _ {R S : Type 0} (v : View R S) (m : Mode) where
     pair_read : (w : Op) (sp : Span) {s z : Text} (t u : Tree Leaf)
         (x : Derives m (of w).lower s (seen (item_of v) t)) (y : Derives m (of w).upper z (seen (item_of v) u))
         → (i : Derives m (of w).upper (s ++ (sign_of v (of w).token sp ∷ z)) (seen (item_of v) (node w t u))) × (depth i ≡ max (depth x) (depth y))
-        × (postfix (node w t u) ≡ postfix t ++ (postfix u ++ (node_of (of w).kind ∷ []))) × (leaves (node_of (of w).kind ∷ []) ≡ 0)
+        × (postfix (node w t u) ≡ postfix t ++ (postfix u ++ ((of w).kind ∷ []))) × (leaves ((of w).kind ∷ []) ≡ 0)
     pair_read by_and sp t u x y = (joined x y, refl, refl, refl)
     pair_read by_or sp t u x y = (choice x y, refl, refl, refl)
 
@@ -681,7 +674,7 @@ module _ {R S : Type 0} (v : View R S) (m : Mode) where
               text = h.text ++ (sign ∷ i.text);
               derives = y.0;
               nodes = simp (y.2, i.nodes, h.nodes, append_assoc);
-              few = omega (arith, i.few, y.3, leaves_append r (node_of (of w).kind ∷ []));
+              few = omega (arith, i.few, y.3, leaves_append r ((of w).kind ∷ []));
               flat = omega (arith, h.flat, i.flat, y.1);
               split = split_append h.split (next i.split);
               stands = subst (λ (z : Text). Stands z d j) (sym (behind b h.text sign i.text)) i.stands;
@@ -708,7 +701,7 @@ module _ {R S : Type 0} (v : View R S) (m : Mode) where
           shut = h.shut;
         }
 
-    stops : (w : Op) (ts : Tokens) → Stops (of w).lower ts → (of w).next ts ≡ none → Stops (of w).upper ts
+    stops : (w : Op) (ts : Tokens) → Stops (of w).lower ts → (of w).next ts ≡ None → Stops (of w).upper ts
     stops by_and ts h i = i
     stops by_or ts h i = (h, i)
 
@@ -782,8 +775,8 @@ module _ {R S : Type 0} (v : View R S) (m : Mode) where
 
         by : (t : Token) (sp : Span) (us : Tokens) → Linked t → Inside (token t sp us) → Stops OrLevel (token t sp us)
             → Blamed (end_by k sp (link_of t))
-        by t sp us an_and h i = let x : ◌≡◌ {A = Option Tokens} (some us) none = i.0 in clash (cc)
-        by t sp us an_or h i = let x : ◌≡◌ {A = Option Tokens} (some us) none = i.1 in clash (cc)
+        by t sp us an_and h i = let x : ◌≡◌ {A = Option Tokens} (Some us) None = i.0 in clash (cc)
+        by t sp us an_or h i = let x : ◌≡◌ {A = Option Tokens} (Some us) None = i.1 in clash (cc)
         by t sp us a_close h i =
             stop_after top h (Faults.unopened refl h.derives (dead m RP h.stands (after_ended {R = R} {S = S} k h.over 0 RP)))
         by t sp us (other x) h i = subst (λ (w : Link). Blamed (end_by k sp w)) (sym x) (late top h x)

@@ -1,16 +1,13 @@
 -- An operand of the annex that neither `+` nor WITH follows is read as one leaf, and the leaf is the operand's item.
-use Rattle.std.specs.Prelude.{◌≡◌, Bool, true, false, cond, List, ◌++◌, ℕ, suc, ◌≤◌, ◌<◌}
+use Rattle.std.specs.Prelude.{◌≡◌, Bool, true, false, cond, List, ◌++◌, ℕ, suc, ◌≤◌, ◌<◌, Option, Some, None, Ok, Err}
 use Rattle.std.proofs.Math.Path.{refl}
 use Rattle.std.proofs.Common.{sym, ap, subst, ◌∙◌, append_assoc}
 use native.Mathlib.Omega.{arith}
 use Rattle.text.specs.Tests.{by_cond}
 use Rattle.names.specs.Lookup.{gnu_of, is_later, later_of}
-use Rattle.names.specs.declared.Found.TheVariants as F
 use Rattle.refusal.specs.declared.Span.{Span}
 use Rattle.refusal.specs.declared.Refusal.TheVariants.{GnuNoPlus}
 use Rattle.mode.specs.declared.Mode.{Mode}
-use Rattle.lexer.specs.declared.Doc.{Doc}
-use Rattle.lexer.specs.declared.Doc.TheVariants as D
 use Rattle.lexer.specs.declared.Token.{Token}
 use Rattle.lexer.specs.declared.Token.TheVariants as T
 use Rattle.lexer.specs.Tokens.{Tokens, done, refused, token}
@@ -19,8 +16,7 @@ use Rattle.grammar.specs.declared.Leaf.{Leaf}
 use Rattle.grammar.specs.declared.Before.{Before}
 use Rattle.grammar.specs.declared.Before.TheVariants.{Listed, Term, Suffixed, With, Added}
 use Rattle.grammar.specs.declared.Start.TheVariants.{Begins}
-use Rattle.grammar.specs.declared.Move.{Move}
-use Rattle.grammar.specs.declared.Move.TheVariants.{Goes, Ends, Fails}
+use Rattle.grammar.specs.Move.{Move}
 use Rattle.grammar.specs.Leaves.{listed_leaf, ref_leaf, plussed, renamed, later_move, with_listed, with_ref, takes_with, is_with, start_of, name_start, gnu_move, plus_move, tail_move, move_of, moved, Tail, whole, broken, tail_of}
 use Rattle.grammar.specs.Grammar.{count}
 use Rattle.annex.specs.Annex.{Named, listed, referred, Item, item, adding, Allowed, Simple, id, id_later, ref, gnu_later, term, Additions, listed_one, ref_one, term_one, term_more, Operand, bare, with}
@@ -46,9 +42,9 @@ module _ {R S : Type 0} (v : View R S) (m : Mode) (e : ℕ) where
 
       go : ((b : Before) (l : Leaf) → Fewer (count ts) (tail_of m e b l ts)) → (k : Move)
           → Fewer (suc (count ts)) (moved b l (token t sp ts) (λ n c. tail_of m e c n ts) k)
-      go ih (Goes n c) = wider (tail_of m e c n ts) (ih c n)
-      go ih Ends = omega arith
-      go ih (Fails r) = tt
+      go ih (Ok (Some (n, c))) = wider (tail_of m e c n ts) (ih c n)
+      go ih (Ok None) = omega arith
+      go ih (Err r) = tt
 
   -- where no token continues it, a leaf has ended
   ended : (b : Before) → is_with b ≡ false → (l : Leaf) (ts : Tokens) → Head NoTail (signs_of v ts) → tail_of m e b l ts ≡ whole l b ts
@@ -104,12 +100,12 @@ module _ {R S : Type 0} (v : View R S) (m : Mode) (e : ℕ) where
   unfolding tail_of move_of
   exception_on l k sp ts = refl
 
-  addition_on : (l : Leaf) (d : Doc) (n sp : Span) (ts : Tokens)
+  addition_on : (l : Leaf) (d : Option Span) (n sp : Span) (ts : Tokens)
       → tail_of m e With l (token (T.AdditionRef d n) sp ts) ≡ tail_of m e Added (with_ref l d n) ts
   unfolding tail_of move_of
   addition_on l d n sp ts = refl
 
-  unknown_on : (l : Leaf) (n sp : Span) (ts : Tokens) → tail_of m e With l (token (T.Unknown n) sp ts) ≡ tail_of m e Term (with_ref l D.Absent n) ts
+  unknown_on : (l : Leaf) (n sp : Span) (ts : Tokens) → tail_of m e With l (token (T.Unknown n) sp ts) ≡ tail_of m e Term (with_ref l None n) ts
   unfolding tail_of move_of
   unknown_on l n sp ts = refl
 
@@ -134,16 +130,16 @@ module _ {R S : Type 0} (v : View R S) (m : Mode) (e : ℕ) where
       let y = ahead v x.1 x.3 in
       let z = y.2 in
       subst (λ (c : R). Reads (tail_of m e b l ts) (adding (item_of v l) (referred c)) r) y.1
-      (reads_on (tail_of m e b l ts) (tail_of m e Term (with_ref l D.Absent y.0) z.1)
+      (reads_on (tail_of m e b l ts) (tail_of m e Term (with_ref l None y.0) z.1)
       (ap (tail_of m e b l) x.2 ∙ with_on b w t l x.0 x.1 ∙ ap (tail_of m e With l) z.2 ∙ unknown_on l y.0 z.0 z.1)
-      (stopped_at Term refl (with_ref l D.Absent y.0) z.1 r z.3 s))
+      (stopped_at Term refl (with_ref l None y.0) z.1 r z.3 s))
   reads_adds (term_more i) b w t l ts r h s =
       let x = ahead v ts h in
       let y = ahead v x.1 x.3 in
       let z = y.2 in
-      reads_on (tail_of m e b l ts) (tail_of m e Term (with_ref l D.Absent y.0) z.1)
+      reads_on (tail_of m e b l ts) (tail_of m e Term (with_ref l None y.0) z.1)
       (ap (tail_of m e b l) x.2 ∙ with_on b w t l x.0 x.1 ∙ ap (tail_of m e With l) z.2 ∙ unknown_on l y.0 z.0 z.1)
-      (reads_adds i Term refl refl (with_ref l D.Absent y.0) z.1 r z.3 s)
+      (reads_adds i Term refl refl (with_ref l None y.0) z.1 r z.3 s)
 
   -- tokens that begin with an operand's first, and come to a leaf of the item i behind its simple expression, with the signs r behind it
   record Simply (ts : Tokens) (i : Item R S) (r : List (Sign R S)) : Type 0 where
@@ -172,7 +168,7 @@ module _ {R S : Type 0} (v : View R S) (m : Mode) (e : ℕ) where
   unfolding tail_of move_of plus_move
   plus_on k sp sq ts g = rw g
 
-  gnu_on : (k j : ℕ) (sp sq : Span) (ts : Tokens) → gnu_of k ≡ true → m.gnu_plus ≡ true → is_later k ≡ false → later_of k ≡ F.At j
+  gnu_on : (k j : ℕ) (sp sq : Span) (ts : Tokens) → gnu_of k ≡ true → m.gnu_plus ≡ true → is_later k ≡ false → later_of k ≡ Some j
       → tail_of m e (Listed k) (listed_leaf k sp) (token T.Plus sq ts) ≡ tail_of m e Suffixed (renamed (listed_leaf k sp) j) ts
   unfolding tail_of move_of plus_move gnu_move
   gnu_on k j sp sq ts g p i f =
@@ -180,7 +176,7 @@ module _ {R S : Type 0} (v : View R S) (m : Mode) (e : ℕ) where
       (ap
       (λ (b : Bool).
       moved (Listed k) (listed_leaf k sp) (token T.Plus sq ts) (λ n c. tail_of m e c n ts)
-      (cond b (later_move (listed_leaf k sp) sq (F.At j)) (Fails (GnuNoPlus sq))))
+      (cond b (later_move (listed_leaf k sp) sq (Some j)) (Err (GnuNoPlus sq))))
       p)
 
   simply : {z : List (Sign R S)} {i : Item R S} → Simple m z i → (ts : Tokens) (r : List (Sign R S)) → signs_of v ts ≡ z ++ r → Simply ts i r
@@ -267,7 +263,7 @@ module _ {R S : Type 0} (v : View R S) (m : Mode) (e : ℕ) where
   simply term ts r h =
       let w = ahead v ts h in
       let x = w.2 in
-      let l : Leaf = ref_leaf D.Absent w.0 x.0 in
+      let l : Leaf = ref_leaf None w.0 x.0 in
       record {
         first = T.Unknown w.0;
         span = x.0;

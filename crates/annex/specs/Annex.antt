@@ -1,9 +1,7 @@
 -- Annex D's grammar: which lists of signs are expressions, and the tree of each. A line that begins "Annex:" restates the annex; one that
 -- begins "Document 01:" is what document 01 adds to it. Signs are tokens as the grammar sees them (Sign.antt of the lexer); no rule has `bad`.
-use Rattle.std.specs.Prelude.{◌≡◌, Bool, true, false, not, ◌&&◌, List, [], ◌∷◌, ◌++◌, ℕ, suc, max, ◌≤◌, ◌<◌}
-use Rattle.std.proofs.Math.Option.{Option, none, some}
+use Rattle.std.specs.Prelude.{◌≡◌, Bool, true, false, not, ◌&&◌, List, [], ◌∷◌, ◌++◌, ℕ, suc, max, ◌≤◌, ◌<◌, Some, Option, None}
 use Rattle.names.specs.Lookup.{deprecated_of, gnu_of, is_later, later_of}
-use Rattle.names.specs.declared.Found.TheVariants.{At}
 use Rattle.mode.specs.declared.Mode.{Mode}
 use Rattle.lexer.specs.Sign.{Sign, name, reference, unknown, exception, addition, plus, WITH, AND, OR, LP, RP}
 use Rattle.grammar.specs.Tree.{Tree, just, both, either}
@@ -21,10 +19,10 @@ pub record Item (R S : Type 0) : Type 0 where
   pub place : S
 
 abbrev pub item : {R S : Type 0} → Named R → Bool → S → Item R S
-item n b p = record { licence = n; later = b; added = none; place = p }
+item n b p = record { licence = n; later = b; added = None; place = p }
 
 abbrev pub adding : {R S : Type 0} → Item R S → Named R → Item R S
-adding i a = record { licence = i.licence; later = i.later; added = some a; place = i.place }
+adding i a = record { licence = i.licence; later = i.later; added = Some a; place = i.place }
 
 -- Document 01: a deprecated name stands only where the mode allows it (10)
 abbrev pub Allowed : Mode → ℕ → Type 0
@@ -37,7 +35,7 @@ pub data Simple {R S : Type 0} (m : Mode) : List (Sign R S) → Item R S → Typ
   ref : {r : R} {p : S} → Simple m (reference r p ∷ []) (item (referred r) false p)
   -- Document 01: on a GNU name `+` stands only where the mode allows it (11) and not behind "-or-later" (12), and makes the name its
   -- "-or-later" name, which has to be listed (13)
-  gnu_later : {k j : ℕ} {p : S} → Allowed m k → gnu_of k ≡ true → m.gnu_plus ≡ true → is_later k ≡ false → later_of k ≡ At j
+  gnu_later : {k j : ℕ} {p : S} → Allowed m k → gnu_of k ≡ true → m.gnu_plus ≡ true → is_later k ≡ false → later_of k ≡ Some j
       → Simple m (name k p ∷ plus ∷ []) (item (listed j) false p)
   -- Document 01: an unknown term is a reference
   term : {r : R} {p : S} → Simple m (unknown r p ∷ []) (item (referred r) false p)

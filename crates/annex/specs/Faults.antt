@@ -1,8 +1,7 @@
 -- What a refusal of the grammar says of the tokens before it, by what could still become an expression. Document 01, "Refusal numbers": "Given
 -- exactly when" and "Span or number", for 3 to 15, and "Sets for 6".
-use Rattle.std.specs.Prelude.{◌≡◌, true, false, List, [], ◌∷◌, ◌++◌, ℕ, ◌+◌, ◌≤◌}
+use Rattle.std.specs.Prelude.{◌≡◌, true, false, List, [], ◌∷◌, ◌++◌, ℕ, ◌+◌, ◌≤◌, None}
 use Rattle.names.specs.Lookup.{deprecated_of, gnu_of, is_later, later_of}
-use Rattle.names.specs.declared.Found.TheVariants as F
 use Rattle.refusal.specs.Refused.{span}
 use Rattle.refusal.specs.declared.Span.{Span}
 use Rattle.refusal.specs.declared.Expected.{Expected}
@@ -144,7 +143,7 @@ pub data Reason {R S : Type 0} (v : View R S) (m : Mode) (e : ℕ) (all : Tokens
   gnu_suffix : (k : ℕ) (p : S) (c : List (Sign R S)) {sp : Span} {rest : Tokens} → ts ≡ token T.Plus sp rest → b ≡ c ++ (name k p ∷ [])
       → gnu_of k ≡ true → m.gnu_plus ≡ true → is_later k ≡ true → Reason v m e all b ts (GnuPlusWithSuffix sp)
   gnu_unlisted : (k : ℕ) (p : S) (c : List (Sign R S)) {sp : Span} {rest : Tokens} → ts ≡ token T.Plus sp rest → b ≡ c ++ (name k p ∷ [])
-      → gnu_of k ≡ true → m.gnu_plus ≡ true → is_later k ≡ false → later_of k ≡ F.Nothing → Reason v m e all b ts (UnknownLicense sp)
+      → gnu_of k ≡ true → m.gnu_plus ≡ true → is_later k ≡ false → later_of k ≡ None → Reason v m e all b ts (UnknownLicense sp)
   -- 14: a licence stands there, where an operand may, and 64 leaves before it, an operator behind each
   leaves : {t : Token} {sp : Span} {rest : Tokens} {l : Leaf} {x : Before} → ts ≡ token t sp rest → start_of m t sp ≡ Start.Begins l x
       → Waits m b → 64 ≤ weight joining b → Reason v m e all b ts (TooManyLeaves sp)

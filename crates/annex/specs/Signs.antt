@@ -1,6 +1,5 @@
 -- The signs of a text's tokens, and what an answer of the reader says of them. Document 01: "At most 64 leaves and 32 parentheses open at once".
-use Rattle.std.specs.Prelude.{◌≡◌, List, [], ◌∷◌, ◌⊎◌, ℕ, ◌≤◌, ◌<◌}
-use Rattle.std.proofs.Math.Option.{Option, none, some}
+use Rattle.std.specs.Prelude.{◌≡◌, List, [], ◌∷◌, ◌⊎◌, ℕ, ◌≤◌, ◌<◌, Some, None, Option}
 use Rattle.text.specs.Text.{part}
 use Rattle.refusal.specs.Refused.{number_of}
 use Rattle.refusal.specs.declared.Span.{Span}
@@ -10,8 +9,6 @@ use Rattle.lexer.specs.declared.Token.TheVariants as T
 use Rattle.lexer.specs.Tokens.{Tokens, done, refused, token}
 use Rattle.lexer.specs.Sign.{Sign, name, reference, unknown, exception, addition, plus, WITH, AND, OR, LP, RP, bad}
 use Rattle.grammar.specs.declared.Range.{Range}
-use Rattle.grammar.specs.declared.Part.{Part}
-use Rattle.grammar.specs.declared.Part.TheVariants as P
 use Rattle.grammar.specs.declared.Licence.{Licence}
 use Rattle.grammar.specs.declared.Licence.TheVariants as L
 use Rattle.grammar.specs.declared.Addition.{Addition}
@@ -25,17 +22,17 @@ use Rattle.annex.specs.Annex.{Named, listed, referred, Item, Expression, depth}
 
 -- what is seen of a reference, by the ranges of its document part and its name, and of a licence's place
 pub record View (R S : Type 0) : Type 0 where
-  pub ref : Part → Range → R
+  pub ref : Option Range → Range → R
   pub at : Range → S
 
 -- all of both: two texts' trees are then the same only if they stand at the same places
-abbrev pub exact : View (Part × Range) Range
+abbrev pub exact : View (Option Range × Range) Range
 exact = record { ref = (λ d n. (d, n)); at = (λ r. r) }
 
 -- the bytes of a reference, and nothing of a place: "Trees compare references by their bytes", spans aside
-abbrev pub document : List ℕ → Part → Option (List ℕ)
-document s P.Absent = none
-document s (P.At r) = some (part r.start r.end s)
+abbrev pub document : List ℕ → Option Range → Option (List ℕ)
+document s None = None
+document s (Some r) = Some (part r.start r.end s)
 
 abbrev pub spelled : List ℕ → View (Option (List ℕ) × List ℕ) (Unit {0})
 spelled s = record { ref = (λ d n. (document s d, part n.start n.end s)); at = (λ r. tt) }
@@ -52,7 +49,7 @@ module _ {R S : Type 0} (v : View R S) where
   sign_of (T.Exception k) sp = exception k
   sign_of (T.LicenseRef d n) sp = reference (v.ref (part_of d) (range_of n)) (v.at (range_of sp))
   sign_of (T.AdditionRef d n) sp = addition (v.ref (part_of d) (range_of n))
-  sign_of (T.Unknown n) sp = unknown (v.ref P.Absent (range_of n)) (v.at (range_of sp))
+  sign_of (T.Unknown n) sp = unknown (v.ref None (range_of n)) (v.at (range_of sp))
 
   abbrev pub signs_of : Tokens → List (Sign R S)
   signs_of done = []
@@ -65,9 +62,9 @@ module _ {R S : Type 0} (v : View R S) where
   licence_as (L.Reference d n) = referred (v.ref d n)
 
   abbrev pub addition_as : Addition → Option (Named R)
-  addition_as A.Nothing = none
-  addition_as (A.Listed k) = some (listed k)
-  addition_as (A.Reference d n) = some (referred (v.ref d n))
+  addition_as A.Nothing = None
+  addition_as (A.Listed k) = Some (listed k)
+  addition_as (A.Reference d n) = Some (referred (v.ref d n))
 
   abbrev pub item_of : Leaf → Item R S
   item_of l = record { licence = licence_as l.licence; later = l.plus; added = addition_as l.addition; place = v.at l.span }

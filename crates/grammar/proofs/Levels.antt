@@ -1,10 +1,9 @@
 -- The levels with fuel enough: a level leaves fewer tokens, and two fuels that are enough answer the same, so that the equations of the
 -- grammar hold at one fuel. The proofs' machinery, nothing to believe.
 use Prim.Native.Nat.{ℕ, zero, suc, ◌+◌, ◌≤◌, ◌<◌}
-use Rattle.std.specs.Prelude.{◌≡◌, refl, Bool, true, false, List, ltb}
+use Rattle.std.specs.Prelude.{◌≡◌, refl, Bool, true, false, List, ltb, Option, Some, None, Ok, Err}
 use Rattle.std.proofs.Math.Path.{ap}
 use Rattle.std.proofs.Common.{◌∙◌}
-use Rattle.std.proofs.Math.Option.{Option, none, some}
 use native.Mathlib.Omega.{arith}
 use Rattle.text.specs.Tests.{by_cond}
 use Rattle.refusal.specs.Refused.{span}
@@ -15,15 +14,13 @@ use Rattle.refusal.specs.declared.Refusal.TheVariants.{Unexpected, TooManyLeaves
 use Rattle.mode.specs.declared.Mode.{Mode}
 use Rattle.lexer.specs.Tokens.{Tokens, done, token}
 use Rattle.lexer.specs.Tokens as Lexed
-use Rattle.grammar.specs.declared.Kind.{Kind}
-use Rattle.grammar.specs.declared.Kind.TheVariants as K
+use Rattle.grammar.specs.declared.Node.TheVariants as K
 use Rattle.grammar.specs.declared.Node.{Node}
 use Rattle.grammar.specs.declared.Leaf.{Leaf}
 use Rattle.grammar.specs.declared.Before.{Before}
 use Rattle.grammar.specs.declared.Start.{Start}
 use Rattle.grammar.specs.declared.Start.TheVariants.{Begins, Barred, Opens, Unfit}
-use Rattle.grammar.specs.declared.Move.{Move}
-use Rattle.grammar.specs.declared.Move.TheVariants.{Goes, Ends, Fails}
+use Rattle.grammar.specs.Move.{Move}
 use Rattle.grammar.specs.declared.Link.{Link}
 use Rattle.grammar.specs.declared.Link.TheVariants as N
 use Rattle.grammar.specs.Tree.{leaves}
@@ -66,8 +63,8 @@ NoMore c (broken r) = Unit {0}
 
 -- fewer than c are left behind an operator
 abbrev FewerNext : ℕ → Option Tokens → Type 0
-FewerNext c none = Unit {0}
-FewerNext c (some ts) = count ts < c
+FewerNext c None = Unit {0}
+FewerNext c (Some ts) = count ts < c
 
 no_more_suc : (c : ℕ) (t : Tail) → NoMore c t → NoMore (suc c) t
 no_more_suc c (whole l b ts) h = omega arith
@@ -77,7 +74,7 @@ fewer_put : (c : ℕ) (q : List Node) (t : Tail) → NoMore c t → Fewer (suc c
 fewer_put c q (whole l b ts) h = omega arith
 fewer_put c q (broken r) h = tt
 
-fewer_emit : (c : ℕ) (k : Kind) (r : Result) → Fewer c r → Fewer c (emit k r)
+fewer_emit : (c : ℕ) (k : Node) (r : Result) → Fewer c r → Fewer c (emit k r)
 fewer_emit c k (got q b ts) h = h
 fewer_emit c k (refused r) h = tt
 
@@ -139,9 +136,9 @@ module _ (m : Mode) (e : ℕ) where
     where
       go : ((n : Leaf) (c : Before) → NoMore (count ts) (tail_of m e c n ts)) → (x : Move)
           → NoMore (suc (count ts)) (moved b l (token t sp ts) (λ n c. tail_of m e c n ts) x)
-      go ih (Goes n c) = no_more_suc (count ts) (tail_of m e c n ts) (ih n c)
-      go ih Ends = omega arith
-      go ih (Fails r) = tt
+      go ih (Ok (Some (n, c))) = no_more_suc (count ts) (tail_of m e c n ts) (ih n c)
+      go ih (Ok None) = omega arith
+      go ih (Err r) = tt
 
   -- a reader that leaves fewer tokens
   abbrev Falls : Reader → Type 0
@@ -164,10 +161,10 @@ module _ (m : Mode) (e : ℕ) where
   atom_fewer or g d q (Lexed.refused r) = tt
   atom_fewer or g d q (token t sp ts) = atom_by_fewer or g d q sp ts (start_of m t sp)
 
-  tail_at_fewer : (k : Kind) (level : Reader) → Falls level → (d : ℕ) (q : List Node) (b : Before) (ts : Tokens) (c : ℕ) → count ts < c
+  tail_at_fewer : (k : Node) (level : Reader) → Falls level → (d : ℕ) (q : List Node) (b : Before) (ts : Tokens) (c : ℕ) → count ts < c
       → (o : Option Tokens) → FewerNext (count ts) o → Fewer c (tail_at k level d q b ts o)
-  tail_at_fewer k level g d q b ts c l none h = l
-  tail_at_fewer k level g d q b ts c l (some r) h =
+  tail_at_fewer k level g d q b ts c l None h = l
+  tail_at_fewer k level g d q b ts c l (Some r) h =
       fewer_emit c k (level d q r) (fewer_from c (count r) (level d q r) (omega arith) (g d q r))
 
   and_tail_fewer : (and : Reader) → Falls and → (d c : ℕ) (r : Result) → Fewer c r → Fewer c (and_tail and d r)
@@ -205,10 +202,10 @@ module _ (m : Mode) (e : ℕ) where
   same_atom l k d q (Lexed.refused r) a = refl
   same_atom l k d q (token t sp ts) a = same_atom_by l k d q sp ts a (start_of m t sp)
 
-  same_tail_at : (n : Kind) (l k : Reader) (c : ℕ) → Agree c l k → (d : ℕ) (q : List Node) (b : Before) (ts : Tokens) → count ts < c
+  same_tail_at : (n : Node) (l k : Reader) (c : ℕ) → Agree c l k → (d : ℕ) (q : List Node) (b : Before) (ts : Tokens) → count ts < c
       → (o : Option Tokens) → FewerNext (count ts) o → tail_at n l d q b ts o ≡ tail_at n k d q b ts o
-  same_tail_at n l k c a d q b ts h none x = refl
-  same_tail_at n l k c a d q b ts h (some r) x = ap (emit n) (a d q r (omega arith))
+  same_tail_at n l k c a d q b ts h None x = refl
+  same_tail_at n l k c a d q b ts h (Some r) x = ap (emit n) (a d q r (omega arith))
 
   same_and : (l k : Reader) (c : ℕ) → Agree c l k → (d : ℕ) (r : Result) → Fewer c r → and_tail l d r ≡ and_tail k d r
   same_and l k c a d (got q b ts) h = same_tail_at K.And l k c a d q b ts h (and_next ts) (and_fewer ts)

@@ -1,28 +1,25 @@
 -- Whatever reads is a tree's nodes, of at most 64 leaves: for those who call the reader and need no grammar and no tokens.
-use Rattle.std.specs.Prelude.{◌≡◌, refl, Bool, true, false, List, [], ◌∷◌, ◌++◌, length, take, drop, replicate, ltb}
+use Rattle.refusal.specs.declared.Refusal.{Refusal}
+use Rattle.std.specs.Prelude.{◌≡◌, refl, Bool, true, false, List, [], ◌∷◌, ◌++◌, length, take, drop, replicate, ltb, Ok, Err, ⊤, Option, Some, None}
+use Rattle.std.specs.Prelude as Std
 use Rattle.std.proofs.Common.{sym, ap, subst, append_assoc, arith, ltb-true, take_at, drop_at}
-use Rattle.std.proofs.Math.Option.{Option, none, some}
 use Prim.Native.Nat.{ℕ, zero, suc, ◌+◌, ◌-◌, ◌≤◌}
 use Rattle.refusal.specs.declared.Span.{Span}
 use Rattle.refusal.specs.declared.Refusal.TheVariants.{TooManyLeaves, TooDeep}
 use Rattle.mode.specs.declared.Mode.{Mode}
-use Rattle.lexer.specs.declared.Checked.{Checked}
-use Rattle.lexer.specs.declared.Checked.TheVariants.{Fine, Bad}
 use Rattle.lexer.specs.Lex.{check_of}
 use Rattle.lexer.specs.Tokens.{Tokens, done, token, tokens_of}
 use Rattle.lexer.specs.Tokens as Lexed
 use Rattle.grammar.specs.declared.Leaf.{Leaf}
-use Rattle.grammar.specs.declared.Kind.TheVariants as K
+use Rattle.grammar.specs.declared.Node.TheVariants as K
 use Rattle.grammar.specs.declared.Node.{Node}
-use Rattle.grammar.specs.declared.Outcome.{Outcome}
-use Rattle.grammar.specs.declared.Outcome.TheVariants as O
-use Rattle.grammar.specs.declared.Parsed.{Parsed}
+use Rattle.grammar.specs.Parsed.{Parsed}
 use Rattle.grammar.specs.declared.Before.{Before}
 use Rattle.grammar.specs.declared.Start.{Start}
 use Rattle.grammar.specs.declared.Start.TheVariants.{Begins, Barred, Opens, Unfit}
 use Rattle.grammar.specs.declared.Link.{Link}
 use Rattle.grammar.specs.declared.Link.TheVariants as N
-use Rattle.grammar.specs.Tree.{Tree, just, both, either, node_of, postfix, IsTree, leaves}
+use Rattle.grammar.specs.Tree.{Tree, just, both, either, postfix, IsTree, leaves}
 use Rattle.grammar.specs.TreeLaws.{leaves_append, leaves_postfix}
 use Rattle.grammar.specs.Leaves.{start_of, Tail, whole, broken, tail_of}
 use Rattle.grammar.specs.Grammar.{
@@ -110,7 +107,7 @@ shape_end q (refused r) h = tt
 -- a leaf
 shape_put : (q : List Node) → leaves q + 1 ≤ 64 → (t : Tail) → Shaped q (put q t)
 shape_put q h (whole l b ts) =
-    record { tree = just l; nodes = refl; few = omega (arith, leaves_append q (node_of (K.Leaf l) ∷ [])) }
+    record { tree = just l; nodes = refl; few = omega (arith, leaves_append q (K.Leaf l ∷ [])) }
 shape_put q h (broken r) = tt
 
 -- an operator behind its two sides
@@ -120,7 +117,7 @@ emit_and q p (got z b ts) h i =
     record {
       tree = both h.tree i.tree;
       nodes = simp (i.nodes, h.nodes, append_assoc);
-      few = omega (arith, i.few, leaves_append z (node_of K.And ∷ []));
+      few = omega (arith, i.few, leaves_append z (K.And ∷ []));
     }
 
 emit_or : (q p : List Node) (r : Result) → Grown q p → Shaped p r → Shaped q (emit K.Or r)
@@ -129,7 +126,7 @@ emit_or q p (got z b ts) h i =
     record {
       tree = either h.tree i.tree;
       nodes = simp (i.nodes, h.nodes, append_assoc);
-      few = omega (arith, i.few, leaves_append z (node_of K.Or ∷ []));
+      few = omega (arith, i.few, leaves_append z (K.Or ∷ []));
     }
 
 shape_and : (and : Reader) → Shapes and → (d : ℕ) (q : List Node) (r : Result) → Shaped q r → Shaped q (and_tail and d r)
@@ -137,16 +134,16 @@ shape_and and g d q (refused r) h = tt
 shape_and and g d q (got p b ts) h = go (and_next ts)
   where
     go : (o : Option Tokens) → Shaped q (tail_at K.And and d p b ts o)
-    go none = h
-    go (some r) = emit_and q p (and d p r) h (g d p r)
+    go None = h
+    go (Some r) = emit_and q p (and d p r) h (g d p r)
 
 shape_or : (or : Reader) → Shapes or → (d : ℕ) (q : List Node) (r : Result) → Shaped q r → Shaped q (or_tail or d r)
 shape_or or g d q (refused r) h = tt
 shape_or or g d q (got p b ts) h = go (or_next ts)
   where
     go : (o : Option Tokens) → Shaped q (tail_at K.Or or d p b ts o)
-    go none = h
-    go (some r) = emit_or q p (or d p r) h (g d p r)
+    go None = h
+    go (Some r) = emit_or q p (or d p r) h (g d p r)
 
 module _ (m : Mode) (e : ℕ) where
   shape_atom_by : (or : Reader) → Shapes or → (d : ℕ) (q : List Node) (sp : Span) (ts : Tokens) (x : Start)
@@ -185,9 +182,9 @@ shaped : (s : List ℕ) (m : Mode) → Shaped [] (parse_of s m)
 unfolding parse_of
 shaped s m = go (check_of s)
   where
-    go : (c : Checked) → Shaped [] (read_if m s c)
-    go Fine = shape_read m (length s) (tokens_of s m 0)
-    go (Bad r) = tt
+    go : (c : Std.Result ⊤ Refusal) → Shaped [] (read_if m s c)
+    go (Ok tt) = shape_read m (length s) (tokens_of s m 0)
+    go (Err r) = tt
 
 -- nodes behind none are a tree's
 grown_tree : (q : List Node) → Grown [] q → IsTree q
@@ -206,19 +203,10 @@ pub record ReadTree (c : ℕ) (ns : List Node) : Type 0 where
   pub counted : c ≡ length queue
   pub filled : ns ≡ padded queue
 
--- a refused one: no node, and blanks
-pub record NoTree (c : ℕ) (ns : List Node) : Type 0 where
-  pub counted : c ≡ 0
-  pub filled : ns ≡ padded []
-
--- what the count and the nodes of an answer are, by its outcome
-abbrev pub AnsweredBy : Outcome → ℕ → List Node → Type 0
-AnsweredBy O.Read c ns = ReadTree c ns
-AnsweredBy (O.Refused r) c ns = NoTree c ns
-
--- so of the answer as a whole
+-- so of the answer as a whole; a refused one has no node
 abbrev pub Answered : Parsed → Type 0
-Answered a = AnsweredBy a.outcome a.count a.nodes
+Answered (Ok n) = ReadTree n.count n.nodes
+Answered (Err r) = ⊤
 
 -- the first c nodes of an answer that was read are a tree's
 pub read_front : (c : ℕ) (ns : List Node) → ReadTree c ns → IsTree (take c ns)
@@ -230,13 +218,13 @@ read_front c ns r =
 pub read_blank : (c : ℕ) (ns : List Node) → ReadTree c ns → drop c ns ≡ replicate (127 - c) blank
 read_blank c ns r = rw (r.filled, r.counted) (drop_at r.queue _ (length r.queue) refl)
 
--- the answer of the reader is a tree's nodes, or refused with none
+-- the answer of the reader is a tree's nodes, or a refusal
 pub answer_tree : (s : List ℕ) (m : Mode) → Answered (answer_of (parse_of s m))
 answer_tree s m = go (parse_of s m) (shaped s m)
   where
     go : (r : Result) → Shaped [] r → Answered (answer_of r)
     go (got q b ts) h = record { queue = q; tree = grown_tree q h; counted = refl; filled = refl }
-    go (refused r) h = record { counted = refl; filled = refl }
+    go (refused r) h = tt
 
 -- so it is of an answer that is known by its contract alone
 pub answered : (a : Parsed) (s : List ℕ) (m : Mode) → a ≡ answer_of (parse_of s m) → Answered a

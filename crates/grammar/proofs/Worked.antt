@@ -1,6 +1,7 @@
 -- The worked texts of document 01 that speak of parsing, and texts at the edges of its rules: one table, computed, under one claim.
 -- Answers are in document 01's words: a listed name is its bytes, a refusal its number and last column.
-use Rattle.std.specs.Prelude.{ℕ, zero, suc, ◌+◌, ◌≡◌, refl, Bool, true, false, List, [], ◌∷◌, ◌++◌, map, replicate}
+use Rattle.grammar.specs.declared.Range.{Range}
+use Rattle.std.specs.Prelude.{ℕ, zero, suc, ◌+◌, ◌≡◌, refl, Bool, true, false, List, [], ◌∷◌, ◌++◌, map, replicate, Option, Some, None}
 use Prim.Native.String.{String}
 use Rattle.text.specs.Text.{ascii, begins, same, ends, within, part}
 use Rattle.text.specs.Walk.{over, reach, one}
@@ -35,15 +36,11 @@ use Rattle.mode.specs.declared.Mode.{Mode}
 use Rattle.mode.specs.Modes.{strict, lax, mode_of}
 use Rattle.lexer.specs.Lex.{run_end, ref_end, operator_of, ref_of, documented, imprecise_at, unknown_of, word_of, run_of, mark_of, scan_of, check_of}
 use Rattle.lexer.specs.Tokens.{walked, tokens_of}
-use Rattle.grammar.specs.declared.Part.{Part}
-use Rattle.grammar.specs.declared.Part.TheVariants as P
 use Rattle.grammar.specs.declared.Licence.{Licence}
 use Rattle.grammar.specs.declared.Licence.TheVariants as L
 use Rattle.grammar.specs.declared.Addition.{Addition}
 use Rattle.grammar.specs.declared.Addition.TheVariants as A
-use Rattle.grammar.specs.declared.Leaf.{Leaf}
-use Rattle.grammar.specs.declared.Kind.{Kind}
-use Rattle.grammar.specs.declared.Kind.TheVariants as K
+use Rattle.grammar.specs.declared.Node.TheVariants as K
 use Rattle.grammar.specs.declared.Node.{Node}
 use Rattle.grammar.specs.Leaves.{name_start, gnu_move, plus_move, move_of, tail_of}
 use Rattle.grammar.specs.Grammar.{Result, got, refused, and_level, parse_of}
@@ -52,7 +49,7 @@ use Rattle.grammar.specs.Grammar.{Result, got, refused, and_level, parse_of}
 data Name : Type 0 where
   none : Name
   listed_as : List ℕ → Name
-  ref : Part → ℕ → ℕ → Name
+  ref : Option Range → ℕ → ℕ → Name
 
 -- a node: a leaf by its licence, its plus flag, its addition and its span
 data Shown : Type 0 where
@@ -74,14 +71,14 @@ added_of A.Nothing = none
 added_of (A.Listed k) = listed_as (exception_name k)
 added_of (A.Reference d n) = ref d n.start n.end
 
-shown : Kind → Shown
+shown : Node → Shown
 shown K.Blank = blank
 shown (K.Leaf l) = leaf (name_of l.licence) l.plus (added_of l.addition) l.span.start l.span.end
 shown K.And = and
 shown K.Or = or
 
 of_result : Result → Answer
-of_result (got q b ts) = read (map (λ (n : Node). shown n.kind) q)
+of_result (got q b ts) = read (map (λ (n : Node). shown n) q)
 of_result (refused r) = no (number_of r) (column_of r)
 
 answer : Mode × List ℕ → Answer
@@ -123,7 +120,7 @@ table =
     ∷ ((strict, ascii "+"), six 0 1 E.Term)
     ∷ ((strict, []), at 9 0 0)
     ∷ ((strict, ascii "((MIT"), at 8 1 2)
-    ∷ ((strict, ascii "LicenseRef-"), read (leaf (ref P.Absent 11 11) false none 0 11 ∷ []))
+    ∷ ((strict, ascii "LicenseRef-"), read (leaf (ref None 11 11) false none 0 11 ∷ []))
     ∷ ((lax, ascii "mitMIT"), six 3 6 E.Name)
     ∷ ((strict, ascii "MIT " ++ (0xC3 ∷ 0xA9 ∷ [])), at 3 4 6)
     ∷ ((strict, ascii "MIT " ++ (0xE9 ∷ [])), at 1 4 5)
@@ -174,14 +171,14 @@ table =
     -- references and unknown terms; the last addition wins
     ∷ (
       (strict, ascii "DocumentRef-d:LicenseRef-a WITH DocumentRef-:AdditionRef-b"),
-      read (leaf (ref (P.At (record { start = 12; end = 13 })) 25 26) false (ref (P.At (record { start = 44; end = 44 })) 57 58) 0 26 ∷ []),
+      read (leaf (ref (Some (record { start = 12; end = 13 })) 25 26) false (ref (Some (record { start = 44; end = 44 })) 57 58) 0 26 ∷ []),
     )
-    ∷ ((terms, ascii "foo"), read (leaf (ref P.Absent 0 3) false none 0 3 ∷ []))
+    ∷ ((terms, ascii "foo"), read (leaf (ref None 0 3) false none 0 3 ∷ []))
     ∷ ((terms, ascii "foo+"), six 3 4 E.Name)
-    ∷ ((terms, ascii "MIT+ WITH foo WITH bar"), read (leaf (listed_as (ascii "MIT")) true (ref P.Absent 19 22) 0 3 ∷ []))
+    ∷ ((terms, ascii "MIT+ WITH foo WITH bar"), read (leaf (listed_as (ascii "MIT")) true (ref None 19 22) 0 3 ∷ []))
     ∷ (
       (terms, ascii "foo WITH b WITH LLVM-exception"),
-      read (leaf (ref P.Absent 0 3) false (listed_as (ascii "LLVM-exception")) 0 3 ∷ []),
+      read (leaf (ref None 0 3) false (listed_as (ascii "LLVM-exception")) 0 3 ∷ []),
     )
     ∷ ((terms, ascii "MIT WITH foo+"), six 12 13 E.Name)
     -- the limits: 32 parentheses and 33, 64 leaves and 65, and 10 before 14

@@ -2,8 +2,8 @@
 -- or-level; an and-level is an atom, or an atom, AND and an and-level. Nodes are the tree in postfix. At most 64 leaves and 32 parentheses
 -- open at once"; "Order: .. tokens left to right, lexer refusal before grammar; for a leaf 6, 10, 14; for `(` 6, 15; for `)` 6, 7; for `+`
 -- 6, 11, 12, 13. At the end 9 or 6, then 8"; "A refused parse returns zero nodes. Nodes past the count are blank".
-use Rattle.std.specs.Prelude.{ℕ, zero, suc, ◌+◌, ◌-◌, Bool, true, false, List, [], ◌∷◌, ◌++◌, ltb, length, replicate}
-use Rattle.std.proofs.Math.Option.{Option, none, some}
+use Rattle.std.specs.Prelude.{ℕ, zero, suc, ◌+◌, ◌-◌, Bool, true, false, List, [], ◌∷◌, ◌++◌, ltb, length, replicate, Ok, Err, ⊤, Option, Some, None}
+use Rattle.std.specs.Prelude as Std
 use Rattle.refusal.specs.Refused.{span}
 use Rattle.refusal.specs.declared.Span.{Span}
 use Rattle.refusal.specs.declared.Expected.TheVariants as E
@@ -12,19 +12,15 @@ use Rattle.refusal.specs.declared.Refusal.TheVariants.{Unexpected, UnopenedParen
 use Rattle.mode.specs.declared.Mode.{Mode}
 use Rattle.lexer.specs.declared.Token.{Token}
 use Rattle.lexer.specs.declared.Token.TheVariants as T
-use Rattle.lexer.specs.declared.Checked.{Checked}
-use Rattle.lexer.specs.declared.Checked.TheVariants.{Fine, Bad}
 use Rattle.lexer.specs.Lex.{check_of}
 use Rattle.lexer.specs.Tokens.{Tokens, done, token, tokens_of}
 use Rattle.lexer.specs.Tokens as Lexed
-use Rattle.grammar.specs.declared.Kind.{Kind}
-use Rattle.grammar.specs.declared.Kind.TheVariants as K
+use Rattle.grammar.specs.declared.Node.TheVariants as K
 use Rattle.grammar.specs.declared.Node.{Node}
-use Rattle.grammar.specs.declared.Outcome.TheVariants as O
-use Rattle.grammar.specs.declared.Parsed.{Parsed}
+use Rattle.grammar.specs.Parsed.{Parsed}
 use Rattle.grammar.specs.declared.Before.{Before}
 use Rattle.grammar.specs.declared.Before.TheVariants.{Closed}
-use Rattle.grammar.specs.Tree.{node_of, leaves}
+use Rattle.grammar.specs.Tree.{leaves}
 use Rattle.grammar.specs.declared.Start.{Start}
 use Rattle.grammar.specs.declared.Start.TheVariants.{Begins, Barred, Opens, Unfit}
 use Rattle.grammar.specs.declared.Link.{Link}
@@ -49,13 +45,13 @@ abbrev pub unexpected : Span → Before → Refusal
 unexpected sp b = Unexpected sp (expected_after b)
 
 -- one more node at the end
-abbrev pub emit : Kind → Result → Result
-emit k (got q b ts) = got (q ++ (node_of k ∷ [])) b ts
+abbrev pub emit : Node → Result → Result
+emit k (got q b ts) = got (q ++ (k ∷ [])) b ts
 emit k (refused r) = refused r
 
 -- a leaf that has been read
 abbrev pub put : List Node → Tail → Result
-put q (whole l b ts) = got (q ++ (node_of (K.Leaf l) ∷ [])) b ts
+put q (whole l b ts) = got (q ++ (K.Leaf l ∷ [])) b ts
 put q (broken r) = refused r
 
 -- what a token is where an operand has ended
@@ -74,25 +70,25 @@ link_of (T.Unknown n) = N.Other
 
 -- the tokens behind an AND, and behind an OR
 abbrev pub and_by : Link → Tokens → Option Tokens
-and_by N.And ts = some ts
-and_by N.Or ts = none
-and_by N.Close ts = none
-and_by N.Other ts = none
+and_by N.And ts = Some ts
+and_by N.Or ts = None
+and_by N.Close ts = None
+and_by N.Other ts = None
 
 abbrev pub and_next : Tokens → Option Tokens
-and_next done = none
-and_next (Lexed.refused r) = none
+and_next done = None
+and_next (Lexed.refused r) = None
 and_next (token t sp ts) = and_by (link_of t) ts
 
 abbrev pub or_by : Link → Tokens → Option Tokens
-or_by N.And ts = none
-or_by N.Or ts = some ts
-or_by N.Close ts = none
-or_by N.Other ts = none
+or_by N.And ts = None
+or_by N.Or ts = Some ts
+or_by N.Close ts = None
+or_by N.Other ts = None
 
 abbrev pub or_next : Tokens → Option Tokens
-or_next done = none
-or_next (Lexed.refused r) = none
+or_next done = None
+or_next (Lexed.refused r) = None
 or_next (token t sp ts) = or_by (link_of t) ts
 
 -- the `)` of the parenthesis that was opened at o; "8 UnclosedParens: open at the end: innermost open `(`"
@@ -128,9 +124,9 @@ end (got q b ts) = end_at q b ts
 end (refused r) = refused r
 
 -- after an operand: the operator that `next` finds and a further level, or nothing
-abbrev pub tail_at : Kind → Reader → ℕ → List Node → Before → Tokens → Option Tokens → Result
-tail_at k level d q b ts none = got q b ts
-tail_at k level d q b ts (some r) = emit k (level d q r)
+abbrev pub tail_at : Node → Reader → ℕ → List Node → Before → Tokens → Option Tokens → Result
+tail_at k level d q b ts None = got q b ts
+tail_at k level d q b ts (Some r) = emit k (level d q r)
 
 -- after an atom: AND and an and-level, or nothing
 abbrev pub and_tail : Reader → ℕ → Result → Result
@@ -183,20 +179,20 @@ module _ (m : Mode) (e : ℕ) where
   read (token t sp ts) = end (or_level (suc (count (token t sp ts))) 0 [] (token t sp ts))
 
 -- the text's refusals 2 and 1 come before its tokens
-abbrev pub read_if : Mode → List ℕ → Checked → Result
-read_if m s Fine = read m (length s) (tokens_of s m 0)
-read_if m s (Bad r) = refused r
+abbrev pub read_if : Mode → List ℕ → Std.Result ⊤ Refusal → Result
+read_if m s (Ok tt) = read m (length s) (tokens_of s m 0)
+read_if m s (Err r) = refused r
 
 unfoldable pub parse_of : List ℕ → Mode → Result
 parse_of s m = read_if m s (check_of s)
 
 abbrev pub blank : Node
-blank = node_of K.Blank
+blank = K.Blank
 
 -- the nodes, and blanks up to 127
 abbrev pub padded : List Node → List Node
 padded q = q ++ replicate (127 - length q) blank
 
 abbrev pub answer_of : Result → Parsed
-answer_of (got q b ts) = record { outcome = O.Read; count = length q; nodes = padded q }
-answer_of (refused r) = record { outcome = O.Refused r; count = 0; nodes = padded [] }
+answer_of (got q b ts) = Ok (record { count = length q; nodes = padded q })
+answer_of (refused r) = Err r

@@ -1,10 +1,8 @@
 -- A leaf, token by token. Document 01, "From tokens to nodes": "Each leaf record holds its licence as either a listed name or a reference,
 -- with plus flag, addition and the licence token's span"; "Which token may follow which is that of `parse_mode`"; the rules of `+` on GNU
 -- names; "the last addition wins"; and "Sets for 6, by the token before".
-use Rattle.std.specs.Prelude.{ℕ, Bool, true, false, cond, not, ◌&&◌}
+use Rattle.std.specs.Prelude.{ℕ, Bool, true, false, cond, not, ◌&&◌, Option, Some, None, Ok, Err}
 use Rattle.names.specs.Lookup.{deprecated_of, gnu_of, is_later, later_of}
-use Rattle.names.specs.declared.Found.{Found}
-use Rattle.names.specs.declared.Found.TheVariants as F
 use Rattle.refusal.specs.Refused.{span}
 use Rattle.refusal.specs.declared.Span.{Span}
 use Rattle.refusal.specs.declared.Expected.{Expected}
@@ -12,40 +10,33 @@ use Rattle.refusal.specs.declared.Expected.TheVariants as E
 use Rattle.refusal.specs.declared.Refusal.{Refusal}
 use Rattle.refusal.specs.declared.Refusal.TheVariants.{Unexpected, GnuNoPlus, GnuPlusWithSuffix, UnknownLicense}
 use Rattle.mode.specs.declared.Mode.{Mode}
-use Rattle.lexer.specs.declared.Doc.{Doc}
-use Rattle.lexer.specs.declared.Doc.TheVariants as D
 use Rattle.lexer.specs.declared.Token.{Token}
 use Rattle.lexer.specs.declared.Token.TheVariants as T
 use Rattle.lexer.specs.Tokens.{Tokens, done, refused, token}
 use Rattle.grammar.specs.declared.Range.{Range}
-use Rattle.grammar.specs.declared.Part.{Part}
-use Rattle.grammar.specs.declared.Part.TheVariants as P
-use Rattle.grammar.specs.declared.Licence.{Licence}
 use Rattle.grammar.specs.declared.Licence.TheVariants as L
-use Rattle.grammar.specs.declared.Addition.{Addition}
 use Rattle.grammar.specs.declared.Addition.TheVariants as A
 use Rattle.grammar.specs.declared.Leaf.{Leaf}
 use Rattle.grammar.specs.declared.Before.{Before}
 use Rattle.grammar.specs.declared.Before.TheVariants.{Nothing, Joint, Listed, Term, Suffixed, With, Added, Closed}
 use Rattle.grammar.specs.declared.Start.{Start}
 use Rattle.grammar.specs.declared.Start.TheVariants.{Begins, Barred, Opens, Unfit}
-use Rattle.grammar.specs.declared.Move.{Move}
-use Rattle.grammar.specs.declared.Move.TheVariants.{Goes, Ends, Fails}
+use Rattle.grammar.specs.Move.{Move}
 
 -- "reference texts are byte ranges"
 abbrev pub range_of : Span → Range
 range_of sp = record { start = sp.start; end = sp.end }
 
-abbrev pub part_of : Doc → Part
-part_of D.Absent = P.Absent
-part_of (D.Part sp) = P.At (range_of sp)
+abbrev pub part_of : Option Span → Option Range
+part_of None = None
+part_of (Some sp) = Some (range_of sp)
 
 -- "A listed name starts without the plus flag"
 abbrev pub listed_leaf : ℕ → Span → Leaf
 listed_leaf k sp = record { licence = L.Listed k; plus = false; addition = A.Nothing; span = range_of sp }
 
 -- a reference; "An unknown term is a reference with no document part, its name the whole run"
-abbrev pub ref_leaf : Doc → Span → Span → Leaf
+abbrev pub ref_leaf : Option Span → Span → Span → Leaf
 ref_leaf d n sp = record { licence = L.Reference (part_of d) (range_of n); plus = false; addition = A.Nothing; span = range_of sp }
 
 -- a leaf with another licence, with the plus flag, with another addition
@@ -58,7 +49,7 @@ plussed l = record { licence = l.licence; plus = true; addition = l.addition; sp
 abbrev pub with_listed : Leaf → ℕ → Leaf
 with_listed l k = record { licence = l.licence; plus = l.plus; addition = A.Listed k; span = l.span }
 
-abbrev pub with_ref : Leaf → Doc → Span → Leaf
+abbrev pub with_ref : Leaf → Option Span → Span → Leaf
 with_ref l d n = record { licence = l.licence; plus = l.plus; addition = A.Reference (part_of d) (range_of n); span = l.span }
 
 -- "Sets for 6, by the token before"
@@ -101,7 +92,7 @@ pub data Tail : Type 0 where
 
 -- 6 behind WITH
 abbrev pub no_addition : Span → Move
-no_addition sp = Fails (Unexpected sp E.Addition)
+no_addition sp = Err (Unexpected sp E.Addition)
 
 -- a token behind WITH: an addition, which takes the place of an earlier one ("the last addition wins"); anything else is 6
 abbrev pub add_move : Leaf → Token → Span → Move
@@ -112,18 +103,18 @@ add_move l T.Plus sp = no_addition sp
 add_move l T.Open sp = no_addition sp
 add_move l T.Close sp = no_addition sp
 add_move l (T.Licence k) sp = no_addition sp
-add_move l (T.Exception k) sp = Goes (with_listed l k) Added
+add_move l (T.Exception k) sp = Ok (Some (with_listed l k, Added))
 add_move l (T.LicenseRef d n) sp = no_addition sp
-add_move l (T.AdditionRef d n) sp = Goes (with_ref l d n) Added
-add_move l (T.Unknown n) sp = Goes (with_ref l D.Absent n) Term
+add_move l (T.AdditionRef d n) sp = Ok (Some (with_ref l d n, Added))
+add_move l (T.Unknown n) sp = Ok (Some (with_ref l None n, Term))
 
 -- "else the name (without "-only") becomes its "-or-later" name"; "13 if no "-or-later" name is listed"
-abbrev pub later_move : Leaf → Span → Found → Move
-later_move l sp (F.At j) = Goes (renamed l j) Suffixed
-later_move l sp F.Nothing = Fails (UnknownLicense sp)
+abbrev pub later_move : Leaf → Span → Option ℕ → Move
+later_move l sp (Some j) = Ok (Some (renamed l j, Suffixed))
+later_move l sp None = Err (UnknownLicense sp)
 
 abbrev pub with_after : Before → Leaf → Move
-with_after b l = cond (takes_with b) (Goes l With) Ends
+with_after b l = cond (takes_with b) (Ok (Some (l, With))) (Ok None)
 
 module _ (m : Mode) where
   -- a listed name where a licence may stand: "deprecated names by mode"
@@ -141,50 +132,50 @@ module _ (m : Mode) where
   start_of (T.Exception k) sp = Unfit
   start_of (T.LicenseRef d n) sp = Begins (ref_leaf d n sp) Suffixed
   start_of (T.AdditionRef d n) sp = Unfit
-  start_of (T.Unknown n) sp = Begins (ref_leaf D.Absent n sp) Term
+  start_of (T.Unknown n) sp = Begins (ref_leaf None n sp) Term
 
   -- "On GNU names `+` is refused unless allowed, then refused after "-or-later""
   unfoldable pub gnu_move : Leaf → ℕ → Span → Move
   gnu_move l k sp =
-      cond m.gnu_plus (cond (is_later k) (Fails (GnuPlusWithSuffix sp)) (later_move l sp (later_of k))) (Fails (GnuNoPlus sp))
+      cond m.gnu_plus (cond (is_later k) (Err (GnuPlusWithSuffix sp)) (later_move l sp (later_of k))) (Err (GnuNoPlus sp))
 
   -- any other listed name gets the plus flag
   unfoldable pub plus_move : Leaf → ℕ → Span → Move
-  plus_move l k sp = cond (gnu_of k) (gnu_move l k sp) (Goes (plussed l) Suffixed)
+  plus_move l k sp = cond (gnu_of k) (gnu_move l k sp) (Ok (Some (plussed l, Suffixed)))
 
   -- a `+` belongs to a listed name just before it
   abbrev pub plus_after : Before → Leaf → Span → Move
-  plus_after Nothing l sp = Ends
-  plus_after Joint l sp = Ends
+  plus_after Nothing l sp = Ok None
+  plus_after Joint l sp = Ok None
   plus_after (Listed k) l sp = plus_move l k sp
-  plus_after Term l sp = Ends
-  plus_after Suffixed l sp = Ends
-  plus_after With l sp = Ends
-  plus_after Added l sp = Ends
-  plus_after Closed l sp = Ends
+  plus_after Term l sp = Ok None
+  plus_after Suffixed l sp = Ok None
+  plus_after With l sp = Ok None
+  plus_after Added l sp = Ok None
+  plus_after Closed l sp = Ok None
 
   -- a token behind a licence or an addition
   abbrev pub tail_move : Before → Leaf → Token → Span → Move
-  tail_move b l T.And sp = Ends
-  tail_move b l T.Or sp = Ends
+  tail_move b l T.And sp = Ok None
+  tail_move b l T.Or sp = Ok None
   tail_move b l T.With sp = with_after b l
   tail_move b l T.Plus sp = plus_after b l sp
-  tail_move b l T.Open sp = Ends
-  tail_move b l T.Close sp = Ends
-  tail_move b l (T.Licence k) sp = Ends
-  tail_move b l (T.Exception k) sp = Ends
-  tail_move b l (T.LicenseRef d n) sp = Ends
-  tail_move b l (T.AdditionRef d n) sp = Ends
-  tail_move b l (T.Unknown n) sp = Ends
+  tail_move b l T.Open sp = Ok None
+  tail_move b l T.Close sp = Ok None
+  tail_move b l (T.Licence k) sp = Ok None
+  tail_move b l (T.Exception k) sp = Ok None
+  tail_move b l (T.LicenseRef d n) sp = Ok None
+  tail_move b l (T.AdditionRef d n) sp = Ok None
+  tail_move b l (T.Unknown n) sp = Ok None
 
   unfoldable pub move_of : Before → Leaf → Token → Span → Move
   move_of b l t sp = cond (is_with b) (add_move l t sp) (tail_move b l t sp)
 
 -- the leaf l, with the token b before, at the tokens ts, of which the first is such a move; `on` reads on behind it
 abbrev pub moved : Before → Leaf → Tokens → (Leaf → Before → Tail) → Move → Tail
-moved b l ts on (Goes n c) = on n c
-moved b l ts on Ends = whole l b ts
-moved b l ts on (Fails r) = broken r
+moved b l ts on (Ok (Some (n, c))) = on n c
+moved b l ts on (Ok None) = whole l b ts
+moved b l ts on (Err r) = broken r
 
 -- where no token stands: after WITH the refusal r, else the leaf has ended
 abbrev pub stopped : Before → Leaf → Tokens → Refusal → Tail

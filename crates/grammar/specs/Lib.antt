@@ -1,3 +1,5 @@
+pub mod Move
+pub mod Parsed
 pub mod Leaves
 pub mod Tree
 pub mod TreeLaws

@@ -2,8 +2,7 @@
 -- 64 leaves".
 use Rattle.std.specs.Prelude.{◌≡◌, List, [], ◌∷◌, ◌++◌, ℕ, suc, ◌+◌, ◌≤◌}
 use Rattle.grammar.specs.declared.Leaf.{Leaf}
-use Rattle.grammar.specs.declared.Kind.{Kind}
-use Rattle.grammar.specs.declared.Kind.TheVariants as K
+use Rattle.grammar.specs.declared.Node.TheVariants as K
 use Rattle.grammar.specs.declared.Node.{Node}
 
 -- a tree over leaves of any kind: the nodes' own, or with the bytes of their texts in place of ranges
@@ -12,14 +11,11 @@ pub data Tree (L : Type 0) : Type 0 where
   both : Tree L → Tree L → Tree L
   either : Tree L → Tree L → Tree L
 
-abbrev pub node_of : Kind → Node
-node_of k = record { kind = k }
-
 -- the tree's nodes: the left side's, the right side's, the operator
 abbrev pub postfix : Tree Leaf → List Node
-postfix (just l) = node_of (K.Leaf l) ∷ []
-postfix (both t u) = postfix t ++ (postfix u ++ (node_of K.And ∷ []))
-postfix (either t u) = postfix t ++ (postfix u ++ (node_of K.Or ∷ []))
+postfix (just l) = K.Leaf l ∷ []
+postfix (both t u) = postfix t ++ (postfix u ++ (K.And ∷ []))
+postfix (either t u) = postfix t ++ (postfix u ++ (K.Or ∷ []))
 
 -- how many leaves a tree has
 abbrev pub size : {L : Type 0} → Tree L → ℕ
@@ -39,7 +35,7 @@ pub record IsTree (q : List Node) : Type 0 where
   pub nodes : q ≡ postfix tree
   pub few : size tree ≤ 64
 
-abbrev pub is_leaf : Kind → ℕ → ℕ
+abbrev pub is_leaf : Node → ℕ → ℕ
 is_leaf K.Blank n = n
 is_leaf (K.Leaf l) n = suc n
 is_leaf K.And n = n
@@ -48,7 +44,7 @@ is_leaf K.Or n = n
 -- how many of the nodes are leaves
 abbrev pub leaves : List Node → ℕ
 leaves [] = 0
-leaves (x ∷ q) = is_leaf x.kind (leaves q)
+leaves (x ∷ q) = is_leaf x (leaves q)
 
 -- a meaning of trees, by a meaning of leaves, of AND and of OR; and the same by a stack, node after node
 module _ {L A : Type 0} (l : L → A) (a o : A → A → A) where
@@ -64,7 +60,7 @@ apply f (y ∷ []) = y ∷ []
 apply f (y ∷ x ∷ k) = f x y ∷ k
 
 module _ {A : Type 0} (l : Leaf → A) (a o : A → A → A) where
-  abbrev pub turn : Kind → List A → List A
+  abbrev pub turn : Node → List A → List A
   turn K.Blank k = k
   turn (K.Leaf x) k = l x ∷ k
   turn K.And k = apply a k
@@ -72,4 +68,4 @@ module _ {A : Type 0} (l : Leaf → A) (a o : A → A → A) where
 
   abbrev pub run : List Node → List A → List A
   run [] k = k
-  run (x ∷ q) k = run q (turn x.kind k)
+  run (x ∷ q) k = run q (turn x k)

@@ -3,15 +3,13 @@
 use Rattle.std.specs.Prelude.{◌≡◌, refl, List, [], ◌∷◌, ◌++◌, ℕ, ◌+◌, ◌≤◌, length}
 use Rattle.std.proofs.Common.{sym, ap, ◌∙◌, append_assoc, append-nil, arith, length-append}
 use Rattle.grammar.specs.declared.Leaf.{Leaf}
-use Rattle.grammar.specs.declared.Kind.{Kind}
-use Rattle.grammar.specs.declared.Kind.TheVariants as K
+use Rattle.grammar.specs.declared.Node.TheVariants as K
 use Rattle.grammar.specs.declared.Node.{Node}
 use Rattle.grammar.specs.Tree.{
   Tree,
   just,
   both,
   either,
-  node_of,
   postfix,
   size,
   seen,
@@ -23,7 +21,7 @@ use Rattle.grammar.specs.Tree.{
 }
 
 -- two sides, their operator and what follows
-grouped : (a b : List Node) (k : Kind) (q : List Node) → (a ++ (b ++ (node_of k ∷ []))) ++ q ≡ a ++ (b ++ (node_of k ∷ q))
+grouped : (a b : List Node) (k : Node) (q : List Node) → (a ++ (b ++ (k ∷ []))) ++ q ≡ a ++ (b ++ (k ∷ q))
 grouped a b k q = simp append_assoc
 
 module _ {A : Type 0} (l : Leaf → A) (a o : A → A → A) where
@@ -32,10 +30,10 @@ module _ {A : Type 0} (l : Leaf → A) (a o : A → A → A) where
   run_tree (just x) q k = refl
   run_tree (both t u) q k =
       ap (λ (z : List Node). run l a o z k) (grouped (postfix t) (postfix u) K.And q)
-      ∙ run_tree t (postfix u ++ (node_of K.And ∷ q)) k ∙ run_tree u (node_of K.And ∷ q) (meaning l a o t ∷ k)
+      ∙ run_tree t (postfix u ++ (K.And ∷ q)) k ∙ run_tree u (K.And ∷ q) (meaning l a o t ∷ k)
   run_tree (either t u) q k =
       ap (λ (z : List Node). run l a o z k) (grouped (postfix t) (postfix u) K.Or q)
-      ∙ run_tree t (postfix u ++ (node_of K.Or ∷ q)) k ∙ run_tree u (node_of K.Or ∷ q) (meaning l a o t ∷ k)
+      ∙ run_tree t (postfix u ++ (K.Or ∷ q)) k ∙ run_tree u (K.Or ∷ q) (meaning l a o t ∷ k)
 
   -- all of a tree's nodes leave its meaning alone on the stack
   pub run_postfix : (t : Tree Leaf) → run l a o (postfix t) [] ≡ meaning l a o t ∷ []
@@ -57,9 +55,9 @@ postfix_one t u p =
 -- the leaves of two lists of nodes
 pub leaves_append : (q r : List Node) → leaves (q ++ r) ≡ leaves q + leaves r
 leaves_append [] r = omega arith
-leaves_append (x ∷ q) r = more x.kind (leaves q) (leaves_append q r)
+leaves_append (x ∷ q) r = more x (leaves q) (leaves_append q r)
   where
-    more : (k : Kind) {n : ℕ} (m : ℕ) → n ≡ m + leaves r → is_leaf k n ≡ is_leaf k m + leaves r
+    more : (k : Node) {n : ℕ} (m : ℕ) → n ≡ m + leaves r → is_leaf k n ≡ is_leaf k m + leaves r
     more K.Blank m h = h
     more (K.Leaf l) m h = omega arith
     more K.And m h = h

@@ -10,12 +10,8 @@ pub struct Range {
     pub end: u16,
 }
 
-// The document part of a reference.
-#[derive(Clone, Copy)]
-pub enum Part {
-    Absent,
-    At(Range),
-}
+// The document part of a reference, if it has one.
+pub type Part = Option<Range>;
 
 // A listed name's place among the licences, or the ranges of a reference's names.
 #[derive(Clone, Copy)]
@@ -42,31 +38,22 @@ pub struct Leaf {
 }
 
 #[derive(Clone, Copy)]
-pub enum Kind {
+pub enum Node {
     Blank,
     Leaf(Leaf),
     And,
     Or,
 }
 
-#[derive(Clone, Copy)]
-pub struct Node {
-    pub kind: Kind,
-}
-
-#[derive(Clone, Copy)]
-pub enum Outcome {
-    Read,
-    Refused(Refusal),
-}
-
 // The nodes in postfix; those past the count are blank.
 #[derive(Clone, Copy)]
-pub struct Parsed {
-    pub outcome: Outcome,
+pub struct Nodes {
     pub count: usize,
     pub nodes: [Node; 127],
 }
+
+// What a reader answers. A refusal gives no node.
+pub type Parsed = Result<Nodes, Refusal>;
 
 // The token before, as far as it decides what may follow.
 #[derive(Clone, Copy)]
@@ -100,15 +87,8 @@ pub enum Start {
     Unfit,
 }
 
-// What a token is behind the tokens of a leaf.
-#[derive(Clone, Copy)]
-pub enum Move {
-    // one more of them: the leaf is now this
-    Goes(Leaf, Before),
-    // none of them: the leaf has ended
-    Ends,
-    Fails(Refusal),
-}
+// What a token is behind the tokens of a leaf: one more of them, with which the leaf is now this, or none of them, so that the leaf has ended.
+pub type Move = Result<Option<(Leaf, Before)>, Refusal>;
 
 // What a token is where an operand has ended.
 #[derive(Clone, Copy)]
