@@ -1,16 +1,13 @@
 -- What a step's token has in a short text: its places and indexes fit 16 bits, and it goes ahead. The proofs' machinery, nothing to
 -- believe.
-use Rattle.std.specs.Prelude.{ℕ, ◌≤◌, ◌<◌, List, length}
+use Rattle.lexer.specs.declared.Got.{Got}
+use Rattle.std.specs.Prelude.{ℕ, ◌≤◌, ◌<◌, ◌≡◌, List, length, Option, Some, None, Ok}
 use Rattle.std.proofs.Common.{sym, subst, arith}
 use Rattle.names.specs.Listed.{listed_count, exceptions_count}
 use Rattle.refusal.specs.declared.Span.{Span}
 use Rattle.mode.specs.declared.Mode.{Mode}
-use Rattle.lexer.specs.declared.Doc.{Doc}
-use Rattle.lexer.specs.declared.Doc.TheVariants as D
 use Rattle.lexer.specs.declared.Token.{Token}
 use Rattle.lexer.specs.declared.Token.TheVariants as T
-use Rattle.lexer.specs.declared.Step.{Step}
-use Rattle.lexer.specs.declared.Step.TheVariants as S
 use Rattle.lexer.specs.Lex.{scan_of}
 use Rattle.lexer.proofs.Ahead.{Ahead, scan_ahead}
 use Rattle.lexer.proofs.Inner.{DocInside, RefInside, Inside, InsideStep, scan_inside}
@@ -18,11 +15,11 @@ use Rattle.parser.specs.Turn.{Small, SmallPart, SmallToken, SmallStep}
 use Rattle.parser.specs.Meaning.{Wide}
 use Rattle.parser.specs.Machine.{Onward}
 
-part_small : (d : Doc) (a b : ℕ) → b < 65536 → DocInside d a b → SmallPart d
-part_small D.Absent a b h i = tt
-part_small (D.Part q) a b h i = (omega (arith, i.named, i.before), omega (arith, i.before))
+part_small : (d : Option Span) (a b : ℕ) → b < 65536 → DocInside d a b → SmallPart d
+part_small None a b h i = tt
+part_small (Some q) a b h i = (omega (arith, i.named, i.before), omega (arith, i.before))
 
-ref_small : (d : Doc) (n sp : Span) → sp.end < 65536 → RefInside d n sp → SmallPart d × Small n
+ref_small : (d : Option Span) (n sp : Span) → sp.end < 65536 → RefInside d n sp → SmallPart d × Small n
 ref_small d n sp h i = (
   part_small d sp.start n.start (omega (arith, i.named, i.ends)) i.doc,
   (omega (arith, i.named, i.ends), omega (arith, i.ends)),
@@ -56,21 +53,19 @@ inside_wide s (T.Unknown n) sp i = tt
 
 module _ (s : List ℕ) (m : Mode) (at : ℕ) where
   -- places and indexes fit 16 bits
-  pub scan_small : length s ≤ 1024 → SmallStep (scan_of s m at)
-  scan_small h = go (scan_of s m at) (scan_ahead s m at) (scan_inside s m at)
+  pub scan_small : length s ≤ 1024 → (x : Option Got) → Ok x ≡ scan_of s m at → SmallStep x
+  scan_small h x e = go x (subst (Ahead s m at) (sym e) (scan_ahead s m at)) (subst (InsideStep s) (sym e) (scan_inside s m at))
     where
-      go : (x : Step) → Ahead s m at x → InsideStep s x → SmallStep x
-      go (S.Got t sp nx) a i =
-          let f : Small sp = (omega (arith, a.some, a.inside), omega (arith, a.inside)) in
-          (token_small s t sp f i, f, omega (arith, a.some, a.inside))
-      go S.Done a i = tt
-      go (S.Refused r) a i = tt
+      go : (x : Option Got) → Ahead s m at (Ok x) → InsideStep s (Ok x) → SmallStep x
+      go (Some g) a i =
+          let f : Small g.span = (omega (arith, a.some, a.inside), omega (arith, a.inside)) in
+          (token_small s g.token g.span f i, f)
+      go None a i = tt
 
   -- the step goes ahead, and a `(` is one byte
-  pub scan_onward : Onward (length s) at (scan_of s m at)
-  scan_onward = go (scan_of s m at) (scan_ahead s m at) (scan_inside s m at)
+  pub scan_onward : (x : Option Got) → Ok x ≡ scan_of s m at → Onward (length s) at x
+  scan_onward x e = go x (subst (Ahead s m at) (sym e) (scan_ahead s m at)) (subst (InsideStep s) (sym e) (scan_inside s m at))
     where
-      go : (x : Step) → Ahead s m at x → InsideStep s x → Onward (length s) at x
-      go (S.Got t sp nx) a i = (omega (arith, a.after, a.some), a.inside, sym a.ends, inside_wide s t sp i)
-      go S.Done a i = tt
-      go (S.Refused r) a i = tt
+      go : (x : Option Got) → Ahead s m at (Ok x) → InsideStep s (Ok x) → Onward (length s) at x
+      go (Some g) a i = (omega (arith, a.after, a.some), a.inside, sym a.ends, inside_wide s g.token g.span i)
+      go None a i = tt

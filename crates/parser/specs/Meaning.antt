@@ -1,16 +1,14 @@
 -- What the stack reader still has to do, by the token before: the meaning that its turns keep, and what a token makes of it. The proofs'
 -- machinery, nothing to believe.
-use Rattle.std.specs.Prelude.{ℕ, zero, suc, ◌+◌, ◌≤◌, ◌<◌, ◌≡◌, Bool, true, cond, not, ◌&&◌, ◌||◌, length}
+use Rattle.lexer.specs.declared.Got.{Got}
+use Rattle.std.specs.Prelude.{ℕ, ◌+◌, ◌≤◌, ◌<◌, ◌≡◌, Bool, true, cond, not, ◌&&◌, ◌||◌, length, Some, None, Ok, Err, Option}
 use Rattle.std.proofs.Math.Path.{refl, ap, subst}
 use Rattle.std.proofs.Common.{sym, ◌∙◌, true≢false, arith}
 use Rattle.std.proofs.Math.Bool.{false}
 use Rattle.std.proofs.lemmas.Bool.{false≢true}
 use mathlib.Core.List.{List, [], ◌∷◌, ◌++◌}
-use Rattle.std.proofs.Math.Option.{Option, none, some}
 use Rattle.text.specs.Tests.{cond_true, cond_false, by_cond}
 use Rattle.names.specs.Lookup.{gnu_of, deprecated_of, is_later, later_of}
-use Rattle.names.specs.declared.Found.{Found}
-use Rattle.names.specs.declared.Found.TheVariants as F
 use Rattle.refusal.specs.Refused.{span}
 use Rattle.refusal.specs.declared.Span.{Span}
 use Rattle.refusal.specs.declared.Expected.TheVariants as E
@@ -20,19 +18,16 @@ use Rattle.mode.specs.declared.Mode.{Mode}
 use Rattle.lexer.specs.declared.Token.{Token}
 use Rattle.lexer.specs.declared.Token.TheVariants as T
 use Rattle.lexer.specs.declared.Cursor.{Cursor}
-use Rattle.lexer.specs.declared.Step.{Step}
-use Rattle.lexer.specs.declared.Step.TheVariants as S
 use Rattle.lexer.specs.Tokens.{Tokens, done, token, and_then}
 use Rattle.lexer.specs.Tokens as Lexed
-use Rattle.grammar.specs.declared.Kind.TheVariants as K
+use Rattle.grammar.specs.declared.Node.TheVariants as K
 use Rattle.grammar.specs.declared.Node.{Node}
 use Rattle.grammar.specs.declared.Leaf.{Leaf}
 use Rattle.grammar.specs.declared.Before.{Before}
 use Rattle.grammar.specs.declared.Before.TheVariants.{Nothing, Joint, Listed, Term, Suffixed, With, Added, Closed}
 use Rattle.grammar.specs.declared.Start.{Start}
 use Rattle.grammar.specs.declared.Start.TheVariants.{Begins, Barred, Opens, Unfit}
-use Rattle.grammar.specs.declared.Move.{Move}
-use Rattle.grammar.specs.declared.Move.TheVariants.{Goes, Ends, Fails}
+use Rattle.grammar.specs.Move.{Move}
 use Rattle.grammar.specs.declared.Link.{Link}
 use Rattle.grammar.specs.declared.Link.TheVariants as N
 use Rattle.grammar.specs.Leaves.{
@@ -54,6 +49,8 @@ use Rattle.grammar.specs.Leaves.{
   tail_of,
 }
 use Rattle.grammar.specs.Grammar.{Result, refused, put, link_of, and_by, and_next, or_by, or_next}
+use Rattle.parser.specs.declared.Frame as D
+use Rattle.parser.specs.declared.Frame.TheVariants as F
 use Rattle.parser.specs.Turn.{is_expecting, rank_by, rank_after, rank_of}
 use Rattle.parser.specs.Zipper.{
   Frame,
@@ -72,23 +69,23 @@ use Rattle.parser.specs.Zipper.{
   no_operand,
 }
 
--- a number on the stack as a frame
-abbrev pub frame_of : ℕ → Frame
-frame_of zero = bottom
-frame_of (suc zero) = and
-frame_of (suc (suc zero)) = or
-frame_of (suc (suc (suc p))) = opened (span p (p + 1))
+-- a frame of the code's stack as one of the zipper: an open parenthesis by its one byte
+abbrev pub frame_of : D.Frame → Frame
+frame_of F.Bottom = bottom
+frame_of F.And = and
+frame_of F.Or = or
+frame_of (F.Open p) = opened (span p (p + 1))
 
--- the numbers on the stack, the top first
-abbrev pub framed : List ℕ → List Frame
+-- the frames on the stack, the top first
+abbrev pub framed : List D.Frame → List Frame
 framed [] = []
 framed (c ∷ cs) = frame_of c ∷ framed cs
 
-abbrev pub top_of : List ℕ → ℕ
-top_of [] = 0
+abbrev pub top_of : List D.Frame → D.Frame
+top_of [] = F.Bottom
 top_of (c ∷ cs) = c
 
-abbrev pub below : List ℕ → List ℕ
+abbrev pub below : List D.Frame → List D.Frame
 below [] = []
 below (c ∷ cs) = cs
 
@@ -99,10 +96,8 @@ opens_le (and ∷ s) = omega (arith, opens_le s)
 opens_le (or ∷ s) = omega (arith, opens_le s)
 opens_le (opened o ∷ s) = omega (arith, opens_le s)
 
-pub frame_open : (sp : Span) → sp.end ≡ sp.start + 1 → frame_of (sp.start + 3) ≡ opened sp
-frame_open sp w =
-    ap frame_of (let e : sp.start + 3 ≡ suc (suc (suc sp.start)) = omega arith in e)
-    ∙ ap (λ (x : ℕ). opened (span sp.start x)) (sym w)
+pub frame_open : (sp : Span) → sp.end ≡ sp.start + 1 → frame_of (F.Open sp.start) ≡ opened sp
+frame_open sp w = ap (λ (x : ℕ). opened (span sp.start x)) (sym w)
 
 -- a leaf is being read, and it is the last node
 abbrev pub Holds : Before → Type 0
@@ -198,17 +193,17 @@ start_begun m (T.Unknown n) sp w = tt
 
 -- how a move goes with the rank k of its token, where j is what the token would be ranked by
 abbrev pub Ranked : ℕ → ℕ → Move → Type 0
-Ranked k j (Goes l b) = Holds b × (k ≡ 0)
-Ranked k j Ends = k ≡ j
-Ranked k j (Fails r) = k ≡ 0
+Ranked k j (Ok (Some (l, b))) = Holds b × (k ≡ 0)
+Ranked k j (Ok None) = k ≡ j
+Ranked k j (Err r) = k ≡ 0
 
 pub cond_same : (b : Bool) → ◌≡◌ {A = ℕ} (cond b 0 0) 0
 cond_same true = refl
 cond_same false = refl
 
-later_ranked : (l : Leaf) (sp : Span) (f : Found) (k j : ℕ) → k ≡ 0 → Ranked k j (later_move l sp f)
-later_ranked l sp (F.At i) k j e = (tt, e)
-later_ranked l sp F.Nothing k j e = e
+later_ranked : (l : Leaf) (sp : Span) (f : Option ℕ) (k j : ℕ) → k ≡ 0 → Ranked k j (later_move l sp f)
+later_ranked l sp (Some i) k j e = (tt, e)
+later_ranked l sp None k j e = e
 
 add_ranked : (l : Leaf) (t : Token) (sp : Span) (k j : ℕ) → k ≡ 0 → Ranked k j (add_move l t sp)
 add_ranked l T.And sp k j e = e
@@ -259,7 +254,7 @@ module _ (m : Mode) where
 
   -- a move of a token, where an operand has ended
   pub move_ranked : (b : Before) (l : Leaf) (t : Token) (sp : Span) (nx : Cursor) → is_expecting b ≡ false
-      → Ranked (rank_of (S.Got t sp nx) b) (rank_by (link_of t)) (move_of m b l t sp)
+      → Ranked (rank_of (Some record { token = t; span = sp; next = nx }) b) (rank_by (link_of t)) (move_of m b l t sp)
   unfolding rank_of move_of
   move_ranked b l t sp nx x =
       by_cond (Ranked (cond (is_expecting b || is_with b) 0 (rank_by (link_of t))) (rank_by (link_of t))) (is_with b) _ _
@@ -267,7 +262,7 @@ module _ (m : Mode) where
       (λ w. subst (λ (k : ℕ). Ranked k (rank_by (link_of t)) (tail_move m b l t sp))
       (sym (cond_false (is_expecting b || is_with b) 0 (rank_by (link_of t)) (rw (x, w)))) (tail_ranked b l t sp))
 
-  closed_move : (l : Leaf) (t : Token) (sp : Span) → move_of m Closed l t sp ≡ Ends
+  closed_move : (l : Leaf) (t : Token) (sp : Span) → move_of m Closed l t sp ≡ (Ok None)
   unfolding move_of
   closed_move l T.And sp = refl
   closed_move l T.Or sp = refl
@@ -284,33 +279,32 @@ module _ (m : Mode) where
 -- what a rank says of the operator that follows
 pub record Says (k : ℕ) (a o : Option Tokens) : Type 0 where
   pub low : k ≤ 2
-  pub no_and : 0 < k → a ≡ none
-  pub no_or : 1 < k → o ≡ none
+  pub no_and : 0 < k → a ≡ None
+  pub no_or : 1 < k → o ≡ None
 
 says_zero : (a o : Option Tokens) → Says 0 a o
 says_zero a o = record { low = omega arith; no_and = (λ h. absurd (omega arith)); no_or = (λ h. absurd (omega arith)) }
 
 link_says : (k : Link) (ts : Tokens) → Says (rank_by k) (and_by k ts) (or_by k ts)
-link_says N.And ts = says_zero (some ts) none
+link_says N.And ts = says_zero (Some ts) None
 link_says N.Or ts = record { low = omega arith; no_and = (λ h. refl); no_or = (λ h. absurd (omega arith)) }
 link_says N.Close ts = record { low = omega arith; no_and = (λ h. refl); no_or = (λ h. refl) }
-link_says N.Other ts = says_zero none none
+link_says N.Other ts = says_zero None None
 
-after_says : (x : Step) (go : ℕ → Tokens) → Says (rank_after x) (and_next (and_then x go)) (or_next (and_then x go))
-after_says (S.Got t sp nx) go = link_says (link_of t) (go nx.at)
-after_says S.Done go = record { low = omega arith; no_and = (λ h. refl); no_or = (λ h. refl) }
-after_says (S.Refused r) go = says_zero none none
+after_says : (x : Option Got) (go : ℕ → Tokens) → Says (rank_after x) (and_next (and_then (Ok x) go)) (or_next (and_then (Ok x) go))
+after_says (Some g) go = link_says (link_of g.token) (go g.next.at)
+after_says None go = record { low = omega arith; no_and = (λ h. refl); no_or = (λ h. refl) }
 
-pub rank_says : (x : Step) (b : Before) (go : ℕ → Tokens) → Says (rank_of x b) (and_next (and_then x go)) (or_next (and_then x go))
+pub rank_says : (x : Option Got) (b : Before) (go : ℕ → Tokens) → Says (rank_of x b) (and_next (and_then (Ok x) go)) (or_next (and_then (Ok x) go))
 unfolding rank_of
 rank_says x b go =
-    by_cond (λ (k : ℕ). Says k (and_next (and_then x go)) (or_next (and_then x go))) (is_expecting b || is_with b) _ _
-    (λ y. says_zero (and_next (and_then x go)) (or_next (and_then x go))) (λ y. after_says x go)
+    by_cond (λ (k : ℕ). Says k (and_next (and_then (Ok x) go)) (or_next (and_then (Ok x) go))) (is_expecting b || is_with b) _ _
+    (λ y. says_zero (and_next (and_then (Ok x) go)) (or_next (and_then (Ok x) go))) (λ y. after_says x go)
 
-pub ranked_ends : (x : Move) (k j : ℕ) → Ranked k j x → 0 < k → x ≡ Ends
-ranked_ends (Goes l b) k j h p = absurd (omega (arith, h.1))
-ranked_ends Ends k j h p = refl
-ranked_ends (Fails r) k j h p = absurd (omega arith)
+pub ranked_ends : (x : Move) (k j : ℕ) → Ranked k j x → 0 < k → x ≡ (Ok None)
+ranked_ends (Ok (Some (l, b))) k j h p = absurd (omega (arith, h.1))
+ranked_ends (Ok None) k j h p = refl
+ranked_ends (Err r) k j h p = absurd (omega arith)
 
 pub rank_not : (y : Bool) (j k : ℕ) → 0 < k → k ≡ cond y 0 j → y ≡ false
 rank_not true j k p h = absurd (omega arith)
@@ -391,26 +385,26 @@ module _ (m : Mode) (e n : ℕ) where
         mean_holds b s q l (token t sp ts) h
         ∙ ap (λ (y : Move). atom m e n s (put q (moved b l (token t sp ts) (λ k c. tail_of m e c k ts) y))) w
 
-    pub mean_ends : (b : Before) → is_expecting b ≡ false → move_of m b l t sp ≡ Ends
+    pub mean_ends : (b : Before) → is_expecting b ≡ false → move_of m b l t sp ≡ (Ok None)
         → mean b s q l (token t sp ts) ≡ after m e n s (nodes_of b q l) b (token t sp ts)
     mean_ends b x w =
         by_ended
-        (λ (c : Before). move_of m c l t sp ≡ Ends → mean c s q l (token t sp ts) ≡ after m e n s (nodes_of c q l) c (token t sp ts)) b x
-        (λ c h y. moving c h Ends y ∙ ap (λ (z : List Node). after m e n s z c (token t sp ts)) (sym (nodes_holds c q l h)))
+        (λ (c : Before). move_of m c l t sp ≡ (Ok None) → mean c s q l (token t sp ts) ≡ after m e n s (nodes_of c q l) c (token t sp ts)) b x
+        (λ c h y. moving c h (Ok None) y ∙ ap (λ (z : List Node). after m e n s z c (token t sp ts)) (sym (nodes_holds c q l h)))
         (λ y. refl) w
 
-    pub mean_goes : (b c : Before) (k : Leaf) → is_expecting b ≡ false → move_of m b l t sp ≡ Goes k c
+    pub mean_goes : (b c : Before) (k : Leaf) → is_expecting b ≡ false → move_of m b l t sp ≡ Ok (Some (k, c))
         → (mean b s q l (token t sp ts) ≡ within c s q k ts) × (nodes_of b q l ≡ q ++ one (K.Leaf l))
     mean_goes b c k x w =
         by_ended
-        (λ (d : Before). move_of m d l t sp ≡ Goes k c
+        (λ (d : Before). move_of m d l t sp ≡ Ok (Some (k, c))
         → (mean d s q l (token t sp ts) ≡ within c s q k ts) × (nodes_of d q l ≡ q ++ one (K.Leaf l))) b x
-        (λ d h y. (moving d h (Goes k c) y, nodes_holds d q l h))
+        (λ d h y. (moving d h (Ok (Some (k, c))) y, nodes_holds d q l h))
         (λ y. absurd (let z : ◌≡◌ {A = ℕ} 0 1 = cc (closed_move m l t sp) in omega arith)) w
 
-    pub mean_fails : (b : Before) (r : Refusal) → is_expecting b ≡ false → move_of m b l t sp ≡ Fails r
+    pub mean_fails : (b : Before) (r : Refusal) → is_expecting b ≡ false → move_of m b l t sp ≡ Err r
         → mean b s q l (token t sp ts) ≡ refused r
     mean_fails b r x w =
-        by_ended (λ (d : Before). move_of m d l t sp ≡ Fails r → mean d s q l (token t sp ts) ≡ refused r) b x
-        (λ d h y. moving d h (Fails r) y ∙ atom_refused m e n s r)
+        by_ended (λ (d : Before). move_of m d l t sp ≡ Err r → mean d s q l (token t sp ts) ≡ refused r) b x
+        (λ d h y. moving d h (Err r) y ∙ atom_refused m e n s r)
         (λ y. absurd (let z : ◌≡◌ {A = ℕ} 0 1 = cc (closed_move m l t sp) in omega arith)) w

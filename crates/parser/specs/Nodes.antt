@@ -2,7 +2,7 @@
 -- refused parse has none.
 use Rattle.std.specs.Prelude.{ℕ, ◌≡◌, List}
 use Rattle.mode.specs.declared.Mode.{Mode}
-use Rattle.grammar.specs.declared.Parsed.{Parsed}
+use Rattle.grammar.specs.Parsed.{Parsed}
 use Rattle.grammar.specs.Grammar.{parse_of, answer_of}
 use Rattle.grammar.proofs.Shape.{Answered, answered}
 

@@ -3,14 +3,13 @@
 use Rattle.std.specs.Prelude.{ℕ, zero, suc, ◌+◌, ◌-◌, ◌≤◌, ◌<◌, ◌≡◌, refl, List, [], ◌∷◌, ◌++◌, length, set, replicate}
 use Rattle.std.proofs.Common.{sym, ap, ◌∙◌, append_assoc, arith, length-append}
 use Rattle.std.proofs.Math.Seq.{set-append_seam}
-use Rattle.grammar.specs.declared.Kind.{Kind}
-use Rattle.grammar.specs.declared.Kind.TheVariants as K
+use Rattle.grammar.specs.declared.Node.TheVariants as K
 use Rattle.grammar.specs.declared.Node.{Node}
 use Rattle.grammar.specs.Tree.{is_leaf, leaves}
 use Rattle.grammar.specs.Grammar.{blank, padded}
 use Rattle.parser.specs.Zipper.{one}
 
-leaf_le : (k : Kind) (n m : ℕ) → n ≤ m → is_leaf k n ≤ suc m
+leaf_le : (k : Node) (n m : ℕ) → n ≤ m → is_leaf k n ≤ suc m
 leaf_le K.Blank n m h = omega arith
 leaf_le (K.Leaf l) n m h = omega arith
 leaf_le K.And n m h = omega arith
@@ -18,18 +17,18 @@ leaf_le K.Or n m h = omega arith
 
 pub leaves_le : (q : List Node) → leaves q ≤ length q
 leaves_le [] = omega arith
-leaves_le (x ∷ q) = leaf_le x.kind (leaves q) (length q) (leaves_le q)
+leaves_le (x ∷ q) = leaf_le x (leaves q) (length q) (leaves_le q)
 
-leaf_add : (k : Kind) (n m : ℕ) → is_leaf k (n + m) ≡ is_leaf k n + m
+leaf_add : (k : Node) (n m : ℕ) → is_leaf k (n + m) ≡ is_leaf k n + m
 leaf_add K.Blank n m = refl
 leaf_add (K.Leaf l) n m = omega arith
 leaf_add K.And n m = refl
 leaf_add K.Or n m = refl
 
 -- one node more
-pub leaves_one : (q : List Node) (k : Kind) → leaves (q ++ one k) ≡ leaves q + is_leaf k 0
+pub leaves_one : (q : List Node) (k : Node) → leaves (q ++ one k) ≡ leaves q + is_leaf k 0
 leaves_one [] k = omega arith
-leaves_one (x ∷ q) k = ap (is_leaf x.kind) (leaves_one q k) ∙ leaf_add x.kind (leaves q) (is_leaf k 0)
+leaves_one (x ∷ q) k = ap (is_leaf x) (leaves_one q k) ∙ leaf_add x (leaves q) (is_leaf k 0)
 
 pub length_one : (q : List Node) (x : Node) → length (q ++ (x ∷ [])) ≡ length q + 1
 length_one q x = length-append q (x ∷ [])

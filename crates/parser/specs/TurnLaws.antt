@@ -1,8 +1,6 @@
 -- What the turns' proofs need of the names.
-use Rattle.std.specs.Prelude.{◌≡◌, refl, ℕ}
+use Rattle.std.specs.Prelude.{◌≡◌, refl, ℕ, Option, Some, None}
 use Rattle.std.proofs.Common.{arith}
-use Rattle.names.specs.declared.Found.{Found}
-use Rattle.names.specs.declared.Found.TheVariants.{At, Nothing}
 use Rattle.names.specs.Listed.{listed}
 use Rattle.names.specs.Lookup.{later_of}
 use Rattle.names.proofs.Partners.{later_partner}
@@ -13,6 +11,6 @@ pub later_small : (k : ℕ) → SmallFound (later_of k)
 unfolding listed
 later_small k = go (later_of k) refl
   where
-    go : (f : Found) → later_of k ≡ f → SmallFound f
-    go (At j) e = omega (arith, (later_partner k j e).within)
-    go Nothing e = tt
+    go : (f : Option ℕ) → later_of k ≡ f → SmallFound f
+    go (Some j) e = omega (arith, (later_partner k j e).within)
+    go None e = tt

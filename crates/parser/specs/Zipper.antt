@@ -1,8 +1,7 @@
 -- What a stack of frames still has to do, said by the grammar: a zipper. Each turn of the stack reader keeps that meaning. The proofs'
 -- machinery, nothing to believe.
-use Rattle.std.specs.Prelude.{ℕ, suc, ◌+◌, ◌≤◌, ◌≡◌, refl, Bool, true, List, [], ◌∷◌, ◌++◌, ltb}
+use Rattle.std.specs.Prelude.{ℕ, suc, ◌+◌, ◌≤◌, ◌≡◌, refl, Bool, true, List, [], ◌∷◌, ◌++◌, ltb, None}
 use Rattle.std.proofs.Common.{sym, ap, ◌∙◌, arith}
-use Rattle.std.proofs.Math.Option.{none}
 use Rattle.refusal.specs.declared.Span.{Span}
 use Rattle.refusal.specs.declared.Refusal.{Refusal}
 use Rattle.refusal.specs.declared.Refusal.TheVariants.{UnclosedParens, TooManyLeaves, TooDeep}
@@ -10,8 +9,7 @@ use Rattle.mode.specs.declared.Mode.{Mode}
 use Rattle.lexer.specs.declared.Token.{Token}
 use Rattle.lexer.specs.Tokens.{Tokens, done, token}
 use Rattle.lexer.specs.Tokens as Lexed
-use Rattle.grammar.specs.declared.Kind.{Kind}
-use Rattle.grammar.specs.declared.Kind.TheVariants as K
+use Rattle.grammar.specs.declared.Node.TheVariants as K
 use Rattle.grammar.specs.declared.Node.{Node}
 use Rattle.grammar.specs.declared.Leaf.{Leaf}
 use Rattle.grammar.specs.declared.Before.{Before}
@@ -20,7 +18,7 @@ use Rattle.grammar.specs.declared.Start.{Start}
 use Rattle.grammar.specs.declared.Start.TheVariants.{Begins, Opens}
 use Rattle.grammar.specs.declared.Link.{Link}
 use Rattle.grammar.specs.declared.Link.TheVariants as N
-use Rattle.grammar.specs.Tree.{node_of, leaves}
+use Rattle.grammar.specs.Tree.{leaves}
 use Rattle.grammar.specs.Leaves.{start_of, tail_of}
 use Rattle.grammar.specs.Grammar.{
   Result,
@@ -67,13 +65,13 @@ opens (and ∷ s) = opens s
 opens (or ∷ s) = opens s
 opens (opened o ∷ s) = opens s + 1
 
-abbrev pub one : Kind → List Node
-one k = node_of k ∷ []
+abbrev pub one : Node → List Node
+one k = k ∷ []
 
 -- a token that no operand is followed by, with the token b before it
 pub record Bad (b : Before) (ts : Tokens) (r : Refusal) : Type 0 where
-  pub no_and : and_next ts ≡ none
-  pub no_or : or_next ts ≡ none
+  pub no_and : and_next ts ≡ None
+  pub no_or : or_next ts ≡ None
   pub no_close : (o : Span) (q : List Node) → close_at o q b ts ≡ refused r
   pub no_end : (q : List Node) → end_at q b ts ≡ refused r
 
@@ -149,14 +147,14 @@ module _ (m : Mode) (e n : ℕ) where
   pub atom_refused : (s : List Frame) (r : Refusal) → atom s (refused r) ≡ refused r
   atom_refused s r = and_k_refused s r
 
-  and_none : (d : ℕ) (q : List Node) (b : Before) (ts : Tokens) → and_next ts ≡ none → and! d (got q b ts) ≡ got q b ts
+  and_none : (d : ℕ) (q : List Node) (b : Before) (ts : Tokens) → and_next ts ≡ None → and! d (got q b ts) ≡ got q b ts
   and_none d q b ts a = ap (tail_at K.And (and_level m e (suc n)) d q b ts) a
 
-  or_none : (d : ℕ) (q : List Node) (b : Before) (ts : Tokens) → or_next ts ≡ none → or! d (got q b ts) ≡ got q b ts
+  or_none : (d : ℕ) (q : List Node) (b : Before) (ts : Tokens) → or_next ts ≡ None → or! d (got q b ts) ≡ got q b ts
   or_none d q b ts o = ap (tail_at K.Or (or_level m e (suc n)) d q b ts) o
 
   -- where no OR follows, an and-level that has ended is an or-level that has
-  plain : (s : List Frame) (q : List Node) (b : Before) (ts : Tokens) → or_next ts ≡ none → and_k s (got q b ts) ≡ or_k s (got q b ts)
+  plain : (s : List Frame) (q : List Node) (b : Before) (ts : Tokens) → or_next ts ≡ None → and_k s (got q b ts) ≡ or_k s (got q b ts)
   plain [] q b ts o = ap end (or_none 0 q b ts o)
   plain (bottom ∷ s) q b ts o = ap end (or_none 0 q b ts o)
   plain (and ∷ s) q b ts o = plain s (q ++ one K.And) b ts o
@@ -164,20 +162,20 @@ module _ (m : Mode) (e n : ℕ) where
   plain (opened p ∷ s) q b ts o = ap (λ (r : Result). and_k s (and! (opens s) (close p r))) (or_none (opens s + 1) q b ts o)
 
   -- the operator on top becomes a node
-  pub pop_and : (s : List Frame) (q : List Node) (b : Before) (ts : Tokens) → and_next ts ≡ none
+  pub pop_and : (s : List Frame) (q : List Node) (b : Before) (ts : Tokens) → and_next ts ≡ None
       → after (and ∷ s) q b ts ≡ after s (q ++ one K.And) b ts
   pop_and s q b ts a =
       ap (λ (r : Result). and_k s (emit K.And r)) (and_none (opens s) q b ts a)
       ∙ sym (ap (and_k s) (and_none (opens s) (q ++ one K.And) b ts a))
 
-  pub pop_or : (s : List Frame) (q : List Node) (b : Before) (ts : Tokens) → and_next ts ≡ none → or_next ts ≡ none
+  pub pop_or : (s : List Frame) (q : List Node) (b : Before) (ts : Tokens) → and_next ts ≡ None → or_next ts ≡ None
       → after (or ∷ s) q b ts ≡ after s (q ++ one K.Or) b ts
   pop_or s q b ts a o =
       ap (and_k (or ∷ s)) (and_none (opens s) q b ts a) ∙ plain (or ∷ s) q b ts o
       ∙ sym (plain s (q ++ one K.Or) b ts o) ∙ sym (ap (and_k s) (and_none (opens s) (q ++ one K.Or) b ts a))
 
   -- at an open parenthesis, where no operator follows
-  closing : (s : List Frame) (o : Span) (q : List Node) (b : Before) (ts : Tokens) → and_next ts ≡ none → or_next ts ≡ none
+  closing : (s : List Frame) (o : Span) (q : List Node) (b : Before) (ts : Tokens) → and_next ts ≡ None → or_next ts ≡ None
       → after (opened o ∷ s) q b ts ≡ atom s (close_at o q b ts)
   closing s o q b ts x y = ap (and_k (opened o ∷ s)) (and_none (opens s + 1) q b ts x) ∙ plain (opened o ∷ s) q b ts y
 
@@ -192,7 +190,7 @@ module _ (m : Mode) (e n : ℕ) where
   unclosed s o q b = closing s o q b done refl refl ∙ atom_refused s (UnclosedParens o)
 
   -- at the bottom, where no operator follows
-  pub at_bottom : (q : List Node) (b : Before) (ts : Tokens) → and_next ts ≡ none → or_next ts ≡ none
+  pub at_bottom : (q : List Node) (b : Before) (ts : Tokens) → and_next ts ≡ None → or_next ts ≡ None
       → (after [] q b ts ≡ end_at q b ts) × ((s : List Frame) → after (bottom ∷ s) q b ts ≡ end_at q b ts)
   at_bottom q b ts x y =
       let h : end (or! 0 (and! 0 (got q b ts))) ≡ end_at q b ts =

@@ -1,25 +1,20 @@
 // From tokens to nodes: the stack reader, a token at a time.
 #![tactic(auto)]
 
-ghost use Rattle.std.specs.Prelude.{◌≡◌, ◌-◌, ◌<◌, length};
-ghost use Rattle.names.specs.Layout.{words};
+ghost use Rattle.std.specs.Prelude.{◌≡◌, ◌<◌, length, Some, Ok, Err};
 ghost use Rattle.refusal.specs.Refused.{span};
 ghost use Rattle.lexer.specs.Lex.{check_of};
 ghost use Rattle.lexer.specs.Tokens.{tokens_of};
-ghost use Rattle.lexer.specs.declared.Checked.TheVariants.{Fine};
 ghost use Rattle.grammar.specs.declared.Before.TheVariants.{Added};
-ghost use Rattle.grammar.specs.declared.Move.TheVariants.{Goes};
 ghost use Rattle.grammar.specs.declared.Start.TheVariants.{Begins};
-ghost use Rattle.grammar.specs.Leaves.{range_of, part_of, ref_leaf, with_listed, with_ref, expected_after, takes_with, is_with, name_start, start_of, no_addition, later_move, with_after, gnu_move, plus_move, plus_after, tail_move, add_move, move_of};
-ghost use Rattle.grammar.specs.Grammar.{refused, unexpected, link_of, read, parse_of, answer_of};
-ghost use Rattle.parser.specs.declared.Action.TheVariants.{No};
-ghost use Rattle.parser.specs.Turn.{Small, SmallPart, SmallToken, SmallFound, SmallStep, is_expecting, rank_by, rank_after, rank_of, pops_of, kind_of, leaf_action, open_action, start_action, put_action, push_action, close_action, link_action, move_action, token_action, finish_action, end_action, turn_of};
+ghost use Rattle.grammar.specs.Leaves.{range_of, part_of, ref_leaf, with_listed, with_ref, expected_after, takes_with, is_with, name_start, start_of, later_move, with_after, gnu_move, plus_move, plus_after, tail_move, add_move, move_of};
+ghost use Rattle.grammar.specs.Grammar.{unexpected, link_of, read, parse_of, answer_of};
+ghost use Rattle.parser.specs.Turn.{Small, SmallPart, SmallToken, SmallFound, SmallStep, is_expecting, rank_by, rank_after, rank_of, level, pops_of, kind_of, leaf_action, open_action, start_action, push_action, close_action, link_action, move_action, token_action, finish_action, end_action, turn_of};
 
-pub use grammar::{Addition, Kind, Leaf, Licence, Node, Outcome, Parsed, Part, Range};
+pub use grammar::{Addition, Leaf, Licence, Node, Nodes, Parsed, Part, Range};
 use grammar::{Before, Link, Move, Start};
-use lexer::{Checked, Doc, Step, Token};
+use lexer::{Got, Token};
 pub use mode::Mode;
-use names::Found;
 use refusal::{Expected, Refusal, Span};
 
 // The small state of the stack reader; the stack and the nodes stand beside it in arrays.
@@ -33,17 +28,35 @@ pub struct State {
     pub before: Before,
 }
 
+// What stands on the stack: its bottom, an operator that waits for its right side, the place of an open parenthesis.
+#[derive(Clone, Copy)]
+pub enum Frame {
+    Bottom,
+    And,
+    Or,
+    Open(u16),
+}
+
+// Which operators on the stack a token ends.
+#[derive(Clone, Copy)]
+pub enum Ends {
+    Nothing,
+    Ands,
+    All,
+}
+
 // What one turn does to the arrays, and the state after it.
 #[derive(Clone, Copy)]
 pub enum Action {
     // the last leaf is this
     Put(Leaf, State),
-    // an operator or an open parenthesis goes on the stack: 1 AND, 2 OR, 3 and its place `(`
-    Push(u16, State),
+    // an operator or an open parenthesis goes on the stack
+    Push(Frame, State),
     Go(State),
     Done,
-    No(Refusal),
 }
+
+type Turn = Result<Action, Refusal>;
 
 // Places and indexes are stored in 16 bits: a text has at most 1,024 bytes.
 fn narrow(n: usize) -> u16
@@ -63,14 +76,11 @@ fn range_of(sp: Span) -> Range
     }
 }
 
-fn part_of(d: Doc) -> Part
+fn part_of(d: Option<Span>) -> Part
     requires { SmallPart d }
     ensures { result ≡ part_of d }
 {
-    match d {
-        Doc::Absent => Part::Absent,
-        Doc::Part(sp) => Part::At(range_of(sp)),
-    }
+    d.map(|sp| range_of(sp))
 }
 
 // The set for 6, by the token before.
@@ -78,10 +88,8 @@ fn expected(b: Before) -> Expected
     ensures { result ≡ expected_after b }
 {
     match b {
-        Before::Nothing => Expected::Term,
-        Before::Joint => Expected::Term,
-        Before::Listed(_) => Expected::Name,
-        Before::Term => Expected::Name,
+        Before::Nothing | Before::Joint => Expected::Term,
+        Before::Listed(_) | Before::Term => Expected::Name,
         Before::Suffixed => Expected::Suffixed,
         Before::With => Expected::Addition,
         Before::Added => Expected::Tail,
@@ -93,24 +101,16 @@ fn expected(b: Before) -> Expected
 fn takes_with(b: Before) -> bool
     ensures { result ≡ takes_with b }
 {
-    match b {
-        Before::Nothing => false,
-        Before::Joint => false,
-        Before::Listed(_) => true,
-        Before::Term => true,
-        Before::Suffixed => true,
-        Before::With => false,
-        Before::Added => false,
-        Before::Closed => false,
-    }
+    matches!(b, Before::Listed(_) | Before::Term | Before::Suffixed)
 }
 
 // A listed name where a licence may stand.
-fn named(t: &[u64], m: Mode, k: usize, sp: Span) -> Start
-    requires { (t.now ≡ words) × (k < 65536) × Small sp }
+#[tactic(auto, unfolding(grammar::specs::Leaves::name_start))]
+fn named(m: Mode, k: usize, sp: Span) -> Start
+    requires { (k < 65536) × Small sp }
     ensures { result ≡ name_start m k sp }
 {
-    if names::deprecated(t, k) & !m.deprecated {
+    if names::deprecated(k) & !m.deprecated {
         return Start::Barred;
     }
     let leaf = Leaf {
@@ -123,7 +123,7 @@ fn named(t: &[u64], m: Mode, k: usize, sp: Span) -> Start
 }
 
 // A reference where a licence may stand.
-fn referred(d: Doc, n: Span, sp: Span, b: Before) -> Start
+fn referred(d: Option<Span>, n: Span, sp: Span, b: Before) -> Start
     requires { SmallPart d × Small n × Small sp }
     ensures { result ≡ Begins (ref_leaf d n sp) b }
 {
@@ -140,94 +140,65 @@ fn referred(d: Doc, n: Span, sp: Span, b: Before) -> Start
 }
 
 // A token where a licence may stand.
-fn start_of(t: &[u64], m: Mode, token: Token, sp: Span) -> Start
-    requires { (t.now ≡ words) × SmallToken token × Small sp }
+fn start_of(m: Mode, token: Token, sp: Span) -> Start
+    requires { SmallToken token × Small sp }
     ensures { result ≡ start_of m token sp }
 {
     match token {
-        Token::And => Start::Unfit,
-        Token::Or => Start::Unfit,
-        Token::With => Start::Unfit,
-        Token::Plus => Start::Unfit,
         Token::Open => Start::Opens,
-        Token::Close => Start::Unfit,
-        Token::Licence(k) => named(t, m, k, sp),
-        Token::Exception(_) => Start::Unfit,
+        Token::Licence(k) => named(m, k, sp),
         Token::LicenseRef { doc, name } => referred(doc, name, sp, Before::Suffixed),
-        Token::AdditionRef { .. } => Start::Unfit,
-        Token::Unknown(n) => referred(Doc::Absent, n, sp, Before::Term),
+        Token::Unknown(n) => referred(None, n, sp, Before::Term),
+        _ => Start::Unfit,
     }
 }
 
 // A GNU name becomes its "-or-later" name, if there is one.
-fn later(leaf: Leaf, sp: Span, f: Found) -> Move
+fn later(leaf: Leaf, sp: Span, f: Option<usize>) -> Move
     requires { SmallFound f }
     ensures { result ≡ later_move leaf sp f }
 {
     match f {
-        Found::At(j) => {
-            let addition = leaf.addition;
-            let span = leaf.span;
-            let now = Leaf {
-                licence: Licence::Listed(narrow(j)),
-                plus: leaf.plus,
-                addition: addition,
-                span: span,
-            };
-            Move::Goes(now, Before::Suffixed)
+        Some(j) => {
+            let licence = Licence::Listed(narrow(j));
+            Ok(Some((Leaf { licence, ..leaf }, Before::Suffixed)))
         }
-        Found::Nothing => Move::Fails(Refusal::UnknownLicense(sp)),
+        None => Err(Refusal::UnknownLicense(sp)),
     }
 }
 
 // A `+` behind the GNU name k.
-fn gnu_plus(t: &[u64], m: Mode, leaf: Leaf, k: usize, sp: Span) -> Move
-    requires { t.now ≡ words }
+#[tactic(auto, using(crate::specs::TurnLaws::later_small), unfolding(grammar::specs::Leaves::gnu_move))]
+fn gnu_plus(m: Mode, leaf: Leaf, k: usize, sp: Span) -> Move
     ensures { result ≡ gnu_move m leaf k sp }
 {
-    if m.gnu_plus {
-        if names::is_later(t, k) {
-            return Move::Fails(Refusal::GnuPlusWithSuffix(sp));
-        }
-        return later(leaf, sp, names::later(t, k));
+    if !m.gnu_plus {
+        return Err(Refusal::GnuNoPlus(sp));
     }
-    Move::Fails(Refusal::GnuNoPlus(sp))
+    if names::is_later(k) {
+        return Err(Refusal::GnuPlusWithSuffix(sp));
+    }
+    later(leaf, sp, names::later(k))
 }
 
 // A `+` behind the listed name k.
-fn plus(t: &[u64], m: Mode, leaf: Leaf, k: usize, sp: Span) -> Move
-    requires { t.now ≡ words }
+#[tactic(auto, unfolding(grammar::specs::Leaves::plus_move))]
+fn plus(m: Mode, leaf: Leaf, k: usize, sp: Span) -> Move
     ensures { result ≡ plus_move m leaf k sp }
 {
-    if names::gnu(t, k) {
-        return gnu_plus(t, m, leaf, k, sp);
+    if names::gnu(k) {
+        return gnu_plus(m, leaf, k, sp);
     }
-    let licence = leaf.licence;
-    let addition = leaf.addition;
-    let span = leaf.span;
-    let now = Leaf {
-        licence: licence,
-        plus: true,
-        addition: addition,
-        span: span,
-    };
-    Move::Goes(now, Before::Suffixed)
+    Ok(Some((Leaf { plus: true, ..leaf }, Before::Suffixed)))
 }
 
 // A `+`, which only a listed name takes.
-fn plus_after(t: &[u64], m: Mode, b: Before, leaf: Leaf, sp: Span) -> Move
-    requires { t.now ≡ words }
+fn plus_after(m: Mode, b: Before, leaf: Leaf, sp: Span) -> Move
     ensures { result ≡ plus_after m b leaf sp }
 {
     match b {
-        Before::Nothing => Move::Ends,
-        Before::Joint => Move::Ends,
-        Before::Listed(k) => plus(t, m, leaf, k, sp),
-        Before::Term => Move::Ends,
-        Before::Suffixed => Move::Ends,
-        Before::With => Move::Ends,
-        Before::Added => Move::Ends,
-        Before::Closed => Move::Ends,
+        Before::Listed(k) => plus(m, leaf, k, sp),
+        _ => Ok(None),
     }
 }
 
@@ -236,72 +207,41 @@ fn with_after(b: Before, leaf: Leaf) -> Move
     ensures { result ≡ with_after b leaf }
 {
     if takes_with(b) {
-        Move::Goes(leaf, Before::With)
+        Ok(Some((leaf, Before::With)))
     } else {
-        Move::Ends
+        Ok(None)
     }
 }
 
 // A token that may be a leaf's `+` or WITH.
-fn tail(t: &[u64], m: Mode, b: Before, leaf: Leaf, token: Token, sp: Span) -> Move
-    requires { t.now ≡ words }
+fn tail(m: Mode, b: Before, leaf: Leaf, token: Token, sp: Span) -> Move
     ensures { result ≡ tail_move m b leaf token sp }
 {
     match token {
-        Token::And => Move::Ends,
-        Token::Or => Move::Ends,
         Token::With => with_after(b, leaf),
-        Token::Plus => plus_after(t, m, b, leaf, sp),
-        Token::Open => Move::Ends,
-        Token::Close => Move::Ends,
-        Token::Licence(_) => Move::Ends,
-        Token::Exception(_) => Move::Ends,
-        Token::LicenseRef { .. } => Move::Ends,
-        Token::AdditionRef { .. } => Move::Ends,
-        Token::Unknown(_) => Move::Ends,
+        Token::Plus => plus_after(m, b, leaf, sp),
+        _ => Ok(None),
     }
 }
 
 // The leaf with a reference as its addition.
-fn add_ref(leaf: Leaf, d: Doc, n: Span, b: Before) -> Move
+fn add_ref(leaf: Leaf, d: Option<Span>, n: Span, b: Before) -> Move
     requires { SmallPart d × Small n }
-    ensures { result ≡ Goes (with_ref leaf d n) b }
+    ensures { result ≡ Ok (Some (with_ref leaf d n, b)) }
 {
-    let licence = leaf.licence;
-    let span = leaf.span;
-    let now = Leaf {
-        licence: licence,
-        plus: leaf.plus,
-        addition: Addition::Reference {
-            doc: part_of(d),
-            name: range_of(n),
-        },
-        span: span,
-    };
-    Move::Goes(now, b)
+    let doc = part_of(d);
+    let name = range_of(n);
+    let addition = Addition::Reference { doc, name };
+    Ok(Some((Leaf { addition, ..leaf }, b)))
 }
 
 // The leaf with a listed exception as its addition.
 fn add_listed(leaf: Leaf, k: usize) -> Move
     requires { k < 65536 }
-    ensures { result ≡ Goes (with_listed leaf k) Added }
+    ensures { result ≡ Ok (Some (with_listed leaf k, Added)) }
 {
-    let licence = leaf.licence;
-    let span = leaf.span;
-    let now = Leaf {
-        licence: licence,
-        plus: leaf.plus,
-        addition: Addition::Listed(narrow(k)),
-        span: span,
-    };
-    Move::Goes(now, Before::Added)
-}
-
-// What is no addition, behind WITH.
-fn no_addition(sp: Span) -> Move
-    ensures { result ≡ no_addition sp }
-{
-    Move::Fails(Refusal::Unexpected(sp, Expected::Addition))
+    let addition = Addition::Listed(narrow(k));
+    Ok(Some((Leaf { addition, ..leaf }, Before::Added)))
 }
 
 // A token behind WITH.
@@ -310,17 +250,10 @@ fn add(leaf: Leaf, token: Token, sp: Span) -> Move
     ensures { result ≡ add_move leaf token sp }
 {
     match token {
-        Token::And => no_addition(sp),
-        Token::Or => no_addition(sp),
-        Token::With => no_addition(sp),
-        Token::Plus => no_addition(sp),
-        Token::Open => no_addition(sp),
-        Token::Close => no_addition(sp),
-        Token::Licence(_) => no_addition(sp),
         Token::Exception(k) => add_listed(leaf, k),
-        Token::LicenseRef { .. } => no_addition(sp),
         Token::AdditionRef { doc, name } => add_ref(leaf, doc, name, Before::Added),
-        Token::Unknown(n) => add_ref(leaf, Doc::Absent, n, Before::Term),
+        Token::Unknown(n) => add_ref(leaf, None, n, Before::Term),
+        _ => Err(Refusal::Unexpected(sp, Expected::Addition)),
     }
 }
 
@@ -328,27 +261,19 @@ fn add(leaf: Leaf, token: Token, sp: Span) -> Move
 fn is_with(b: Before) -> bool
     ensures { result ≡ is_with b }
 {
-    match b {
-        Before::Nothing => false,
-        Before::Joint => false,
-        Before::Listed(_) => false,
-        Before::Term => false,
-        Before::Suffixed => false,
-        Before::With => true,
-        Before::Added => false,
-        Before::Closed => false,
-    }
+    matches!(b, Before::With)
 }
 
 // A token behind a leaf's tokens.
-fn behind(t: &[u64], m: Mode, b: Before, leaf: Leaf, token: Token, sp: Span) -> Move
-    requires { (t.now ≡ words) × SmallToken token }
+#[tactic(auto, unfolding(grammar::specs::Leaves::move_of))]
+fn behind(m: Mode, b: Before, leaf: Leaf, token: Token, sp: Span) -> Move
+    requires { SmallToken token }
     ensures { result ≡ move_of m b leaf token sp }
 {
     if is_with(b) {
         add(leaf, token, sp)
     } else {
-        tail(t, m, b, leaf, token, sp)
+        tail(m, b, leaf, token, sp)
     }
 }
 
@@ -359,15 +284,8 @@ fn link_of(token: Token) -> Link
     match token {
         Token::And => Link::And,
         Token::Or => Link::Or,
-        Token::With => Link::Other,
-        Token::Plus => Link::Other,
-        Token::Open => Link::Other,
         Token::Close => Link::Close,
-        Token::Licence(_) => Link::Other,
-        Token::Exception(_) => Link::Other,
-        Token::LicenseRef { .. } => Link::Other,
-        Token::AdditionRef { .. } => Link::Other,
-        Token::Unknown(_) => Link::Other,
+        _ => Link::Other,
     }
 }
 
@@ -375,296 +293,241 @@ fn link_of(token: Token) -> Link
 fn is_expecting(b: Before) -> bool
     ensures { result ≡ is_expecting b }
 {
-    match b {
-        Before::Nothing => true,
-        Before::Joint => true,
-        Before::Listed(_) => false,
-        Before::Term => false,
-        Before::Suffixed => false,
-        Before::With => false,
-        Before::Added => false,
-        Before::Closed => false,
-    }
+    matches!(b, Before::Nothing | Before::Joint)
 }
 
 // A leaf begins.
-fn put(l: Leaf, b: Before, sp: Span, st: State) -> Action
+#[tactic(auto, unfolding(crate::specs::Turn::leaf_action))]
+fn put(l: Leaf, b: Before, sp: Span, st: State) -> Turn
     requires { st.count < 1000 }
     ensures { result ≡ leaf_action l b sp st }
 {
     if st.leaves < 64 {
-        Action::Put(
-            l,
-            State {
-                at: sp.end,
-                sp: st.sp,
-                count: st.count + 1,
-                leaves: st.leaves + 1,
-                opens: st.opens,
-                before: b,
-            },
-        )
+        let next = State {
+            at: sp.end,
+            count: st.count + 1,
+            leaves: st.leaves + 1,
+            before: b,
+            ..st
+        };
+        Ok(Action::Put(l, next))
     } else {
-        Action::No(Refusal::TooManyLeaves(sp))
+        Err(Refusal::TooManyLeaves(sp))
     }
 }
 
 // A parenthesis opens.
-fn open(sp: Span, st: State) -> Action
-    requires { (st.sp < 1000) × (sp.start < 60000) }
+#[tactic(auto, unfolding(crate::specs::Turn::open_action))]
+fn open(sp: Span, st: State) -> Turn
+    requires { (st.sp < 1000) × Small sp }
     ensures { result ≡ open_action sp st }
 {
     if st.opens < 32 {
-        Action::Push(
-            narrow(sp.start + 3),
-            State {
-                at: sp.end,
-                sp: st.sp + 1,
-                count: st.count,
-                leaves: st.leaves,
-                opens: st.opens + 1,
-                before: Before::Joint,
-            },
-        )
+        let next = State {
+            at: sp.end,
+            sp: st.sp + 1,
+            opens: st.opens + 1,
+            before: Before::Joint,
+            ..st
+        };
+        Ok(Action::Push(Frame::Open(narrow(sp.start)), next))
     } else {
-        Action::No(Refusal::TooDeep(sp))
+        Err(Refusal::TooDeep(sp))
     }
 }
 
 // A token where an operand is expected.
-fn on_start(x: Start, sp: Span, st: State) -> Action
-    requires { (st.sp < 1000) × (st.count < 1000) × (sp.start < 60000) }
+fn on_start(x: Start, sp: Span, st: State) -> Turn
+    requires { (st.sp < 1000) × (st.count < 1000) × Small sp }
     ensures { result ≡ start_action x sp st }
 {
     match x {
         Start::Begins(l, b) => put(l, b, sp, st),
-        Start::Barred => Action::No(Refusal::DeprecatedLicenseId(sp)),
+        Start::Barred => Err(Refusal::DeprecatedLicenseId(sp)),
         Start::Opens => open(sp, st),
-        Start::Unfit => Action::No(Refusal::Unexpected(sp, Expected::Term)),
+        Start::Unfit => Err(Refusal::Unexpected(sp, Expected::Term)),
     }
 }
 
 // An operator goes on the stack.
-fn push(code: u16, sp: Span, st: State) -> Action
+fn push(frame: Frame, sp: Span, st: State) -> Turn
     requires { st.sp < 1000 }
-    ensures { result ≡ push_action code sp st }
+    ensures { result ≡ push_action frame sp st }
 {
-    Action::Push(
-        code,
-        State {
-            at: sp.end,
-            sp: st.sp + 1,
-            count: st.count,
-            leaves: st.leaves,
-            opens: st.opens,
-            before: Before::Joint,
-        },
-    )
-}
-
-fn down(n: usize) -> usize
-    ensures { result ≡ n - 1 }
-{
-    if 0 < n { n - 1 } else { 0 }
+    let next = State {
+        at: sp.end,
+        sp: st.sp + 1,
+        before: Before::Joint,
+        ..st
+    };
+    Ok(Action::Push(frame, next))
 }
 
 // A `)`, with the frame on top.
-fn shut(sp: Span, st: State, top: u16) -> Action
+fn shut(sp: Span, st: State, top: Frame) -> Turn
     ensures { result ≡ close_action sp st top }
 {
-    if top < 3 {
-        Action::No(Refusal::UnopenedParens(sp))
-    } else {
-        Action::Go(State {
+    match top {
+        Frame::Open(_) => Ok(Action::Go(State {
             at: sp.end,
-            sp: down(st.sp),
-            count: st.count,
-            leaves: st.leaves,
-            opens: down(st.opens),
+            sp: st.sp.saturating_sub(1),
+            opens: st.opens.saturating_sub(1),
             before: Before::Closed,
-        })
+            ..st
+        })),
+        _ => Err(Refusal::UnopenedParens(sp)),
     }
 }
 
 // Such a token, with the frame on top.
-fn on_link(k: Link, sp: Span, st: State, top: u16) -> Action
+fn on_link(k: Link, sp: Span, st: State, top: Frame) -> Turn
     requires { st.sp < 1000 }
     ensures { result ≡ link_action k sp st top }
 {
     match k {
-        Link::And => push(1, sp, st),
-        Link::Or => push(2, sp, st),
+        Link::And => push(Frame::And, sp, st),
+        Link::Or => push(Frame::Or, sp, st),
         Link::Close => shut(sp, st, top),
-        Link::Other => {
-            let b = st.before;
-            Action::No(Refusal::Unexpected(sp, expected(b)))
-        }
+        Link::Other => Err(Refusal::Unexpected(sp, expected(st.before))),
     }
 }
 
-// The last leaf, one token on.
-fn again(l: Leaf, b: Before, sp: Span, st: State) -> Action
-    ensures { result ≡ put_action l b sp st }
-{
-    Action::Put(
-        l,
-        State {
-            at: sp.end,
-            sp: st.sp,
-            count: st.count,
-            leaves: st.leaves,
-            opens: st.opens,
-            before: b,
-        },
-    )
-}
-
-// A token behind a leaf or a `)`.
-fn on_move(x: Move, token: Token, sp: Span, st: State, top: u16) -> Action
+// A token behind a leaf or a `)`: one more of the leaf's, or none.
+fn on_move(x: Option<(Leaf, Before)>, token: Token, sp: Span, st: State, top: Frame) -> Turn
     requires { st.sp < 1000 }
-    ensures { result ≡ move_action x token sp st top }
+    ensures { result ≡ move_action (Ok x) token sp st top }
 {
     match x {
-        Move::Goes(l, b) => again(l, b, sp, st),
-        Move::Ends => on_link(link_of(token), sp, st, top),
-        Move::Fails(r) => Action::No(r),
+        Some((l, before)) => {
+            let next = State {
+                at: sp.end,
+                before,
+                ..st
+            };
+            Ok(Action::Put(l, next))
+        }
+        None => on_link(link_of(token), sp, st, top),
     }
 }
 
 // A token, wherever it stands.
-fn on_token(t: &[u64], m: Mode, token: Token, sp: Span, leaf: Leaf, st: State, top: u16) -> Action
-    requires { (t.now ≡ words) × SmallToken token × Small sp × (sp.start < 60000) × (st.sp < 1000) × (st.count < 1000) }
+#[tactic(auto, unfolding(crate::specs::Turn::token_action))]
+fn on_token(m: Mode, token: Token, sp: Span, leaf: Leaf, st: State, top: Frame) -> Turn
+    requires { SmallToken token × Small sp × (st.sp < 1000) × (st.count < 1000) }
     ensures { result ≡ token_action m token sp leaf st top }
 {
-    let b = st.before;
-    if is_expecting(b) {
-        on_start(start_of(t, m, token, sp), sp, st)
+    if is_expecting(st.before) {
+        on_start(start_of(m, token, sp), sp, st)
     } else {
-        on_move(behind(t, m, b, leaf, token, sp), token, sp, st, top)
+        on_move(behind(m, st.before, leaf, token, sp)?, token, sp, st, top)
     }
 }
 
 // The end of the text, where an operand has ended.
-fn finish(top: u16) -> Action
+fn finish(top: Frame) -> Turn
     ensures { result ≡ finish_action top }
 {
-    if top < 3 {
-        return Action::Done;
+    match top {
+        Frame::Open(place) => {
+            let start = place as usize;
+            let end = start + 1;
+            Err(Refusal::UnclosedParens(Span { start, end }))
+        }
+        _ => Ok(Action::Done),
     }
-    let p = (top - 3) as usize;
-    Action::No(Refusal::UnclosedParens(Span {
-        start: p,
-        end: p + 1,
-    }))
 }
 
 // The end of the text, where something has to follow.
-fn unended(b: Before, e: usize) -> Action
-    ensures { result ≡ No (unexpected (span e e) b) }
+fn unended(b: Before, e: usize) -> Turn
+    ensures { result ≡ Err (unexpected (span e e) b) }
 {
-    Action::No(Refusal::Unexpected(Span { start: e, end: e }, expected(b)))
+    Err(Refusal::Unexpected(Span { start: e, end: e }, expected(b)))
 }
 
 // The end of the text.
-fn on_end(e: usize, b: Before, top: u16) -> Action
+fn on_end(e: usize, b: Before, top: Frame) -> Turn
     ensures { result ≡ end_action e b top }
 {
     match b {
-        Before::Nothing => Action::No(Refusal::Empty(Span { start: 0, end: e })),
-        Before::Joint => unended(b, e),
-        Before::Listed(_) => finish(top),
-        Before::Term => finish(top),
-        Before::Suffixed => finish(top),
-        Before::With => unended(b, e),
-        Before::Added => finish(top),
-        Before::Closed => finish(top),
+        Before::Nothing => Err(Refusal::Empty(Span { start: 0, end: e })),
+        Before::Joint | Before::With => unended(b, e),
+        _ => finish(top),
     }
 }
 
-// One turn: a step's answer, the last leaf, the state and the frame on top.
-fn turn(t: &[u64], m: Mode, step: Step, e: usize, leaf: Leaf, st: State, top: u16) -> Action
-    requires { (t.now ≡ words) × SmallStep step × (st.sp < 1000) × (st.count < 1000) }
+// One turn: a step's token or the end of the text, the last leaf, the state and the frame on top.
+fn turn(m: Mode, step: Option<Got>, e: usize, leaf: Leaf, st: State, top: Frame) -> Turn
+    requires { SmallStep step × (st.sp < 1000) × (st.count < 1000) }
     ensures { result ≡ turn_of m step e leaf st top }
 {
     match step {
-        Step::Got { token, span, .. } => on_token(t, m, token, span, leaf, st, top),
-        Step::Done => {
-            let b = st.before;
-            on_end(e, b, top)
-        }
-        Step::Refused(r) => Action::No(r),
+        Some(got) => on_token(m, got.token, got.span, leaf, st, top),
+        None => on_end(e, st.before, top),
     }
 }
 
-// Which operators on the stack a token ends: those up to this number.
-fn rank_by(k: Link) -> u16
-    ensures { result ≡ rank_by k }
+// Where an operand has ended, a token ends the operators that bind tighter than itself.
+fn rank_by(k: Link) -> Ends
+    ensures { level result ≡ rank_by k }
 {
     match k {
-        Link::And => 0,
-        Link::Or => 1,
-        Link::Close => 2,
-        Link::Other => 0,
+        Link::And | Link::Other => Ends::Nothing,
+        Link::Or => Ends::Ands,
+        Link::Close => Ends::All,
     }
 }
 
 // The same where an operand has ended; the end of the text is like a `)`.
-fn rank_after(step: Step) -> u16
-    ensures { result ≡ rank_after step }
+fn rank_after(step: Option<Got>) -> Ends
+    ensures { level result ≡ rank_after step }
 {
     match step {
-        Step::Got { token, .. } => rank_by(link_of(token)),
-        Step::Done => 2,
-        Step::Refused(_) => 0,
+        Some(got) => rank_by(link_of(got.token)),
+        None => Ends::All,
     }
 }
 
 // Where no operand has ended, none is popped.
-fn rank(step: Step, b: Before) -> u16
-    ensures { result ≡ rank_of step b }
+#[tactic(auto, unfolding(crate::specs::Turn::rank_of))]
+fn rank(step: Option<Got>, b: Before) -> Ends
+    ensures { level result ≡ rank_of step b }
 {
     if is_expecting(b) | is_with(b) {
-        0
+        Ends::Nothing
     } else {
         rank_after(step)
     }
 }
 
-// Is a frame an operator up to a rank? The bottom is 0.
-fn pops(code: u16, rank: u16) -> bool
-    ensures { result ≡ pops_of code rank }
+// Is a frame an operator that is ended?
+fn pops(frame: Frame, ends: Ends) -> bool
+    ensures { result ≡ pops_of frame (level ends) }
 {
-    (0 < code) & (code <= rank)
+    match frame {
+        Frame::And => matches!(ends, Ends::Ands | Ends::All),
+        Frame::Or => matches!(ends, Ends::All),
+        _ => false,
+    }
 }
 
 // The operator of a frame.
-fn operator(code: u16) -> Kind
-    ensures { result ≡ kind_of code }
+fn operator(frame: Frame) -> Node
+    ensures { result ≡ kind_of frame }
 {
-    if code == 1 { Kind::And } else { Kind::Or }
-}
-
-// No nodes, and why.
-fn refuse(x: Refusal) -> Parsed
-    ensures { result ≡ answer_of (refused x) }
-{
-    let b = Node { kind: Kind::Blank };
-    Parsed {
-        outcome: Outcome::Refused(x),
-        count: 0,
-        nodes: [b; 127],
+    match frame {
+        Frame::And => Node::And,
+        _ => Node::Or,
     }
 }
 
 // The stack reader, of a text that was checked.
 fn read_tokens(m: Mode, s: &[u8]) -> Parsed
-    requires { check_of s.now ≡ Fine }
+    requires { check_of s.now ≡ Ok tt }
     ensures { result ≡ answer_of (read m (length s.now) (tokens_of s.now m 0)) }
 {
-    let t = names::table::table();
     let e = s.len();
-    let mut nodes = [Node { kind: Kind::Blank }; 127];
-    let mut stack = [0u16; 97];
+    let mut nodes = [Node::Blank; 127];
+    let mut stack = [Frame::Bottom; 97];
     let mut leaf = Leaf {
         licence: Licence::Listed(0),
         plus: false,
@@ -680,67 +543,42 @@ fn read_tokens(m: Mode, s: &[u8]) -> Parsed
         before: Before::Nothing,
     };
     loop {
-        let at = st.at;
-        let step = lexer::scan(&t, m, s, at);
-        let b = st.before;
-        let rank = rank(step, b);
+        let step = lexer::scan(m, s, st.at)?;
+        let ends = rank(step, st.before);
         let mut sp = st.sp;
         let mut count = st.count;
         // the operators that this token ends become nodes
-        while pops(stack[sp], rank) {
-            nodes[count] = Node {
-                kind: operator(stack[sp]),
-            };
+        while pops(stack[sp], ends) {
+            nodes[count] = operator(stack[sp]);
             count += 1;
             sp -= 1;
         }
-        let ready = State {
-            at: at,
-            sp: sp,
-            count: count,
-            leaves: st.leaves,
-            opens: st.opens,
-            before: b,
-        };
-        let top = stack[sp];
-        let act = turn(&t, m, step, e, leaf, ready, top);
-        match act {
+        let ready = State { sp, count, ..st };
+        match turn(m, step, e, leaf, ready, stack[sp])? {
             Action::Put(l, next) => {
-                let i = next.count - 1;
-                nodes[i] = Node {
-                    kind: Kind::Leaf(l),
-                };
+                nodes[next.count - 1] = Node::Leaf(l);
                 leaf = l;
                 st = next;
             }
-            Action::Push(code, next) => {
-                let i = next.sp;
-                stack[i] = code;
+            Action::Push(frame, next) => {
+                stack[next.sp] = frame;
                 st = next;
             }
             Action::Go(next) => {
                 st = next;
             }
             Action::Done => {
-                return Parsed {
-                    outcome: Outcome::Read,
-                    count: count,
-                    nodes: nodes,
-                };
-            }
-            Action::No(r) => {
-                return refuse(r);
+                return Ok(Nodes { count, nodes });
             }
         }
     }
 }
 
 // A text in any mode: its nodes, or why it has none.
+#[tactic(auto, unfolding(grammar::specs::Grammar::parse_of))]
 pub fn parse(s: &[u8], m: Mode) -> Parsed
     ensures { result ≡ answer_of (parse_of s.now m) }
 {
-    match lexer::check(s) {
-        Checked::Bad(r) => refuse(r),
-        Checked::Fine => read_tokens(m, s),
-    }
+    lexer::check(s)?;
+    read_tokens(m, s)
 }
