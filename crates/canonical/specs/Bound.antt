@@ -1,14 +1,11 @@
 -- The canonical text is at most four times as long as the text. Over the definitions alone.
-use Rattle.std.specs.Prelude.{ℕ, zero, suc, ◌+◌, ◌-◌, ◌*◌, ◌<◌, ◌≤◌, ◌≡◌, List, length}
+use Rattle.refusal.specs.declared.Refusal.{Refusal}
+use Rattle.std.specs.Prelude.{ℕ, zero, suc, ◌+◌, ◌-◌, ◌*◌, ◌<◌, ◌≤◌, ◌≡◌, List, length, Some, None, Result, Ok, Err, ⊤}
 use Rattle.std.proofs.Common.{sym, subst, arith, length-append}
 use Rattle.mode.specs.Modes.{lax}
-use Rattle.lexer.specs.declared.Checked.{Checked}
-use Rattle.lexer.specs.declared.Checked.TheVariants.{Fine, Bad}
 use Rattle.lexer.specs.Lex.{scan_of, check_of}
-use Rattle.canonical.specs.declared.Turn.{Turn}
-use Rattle.canonical.specs.declared.Turn.TheVariants.{Goes, Ends, Fails}
 use Rattle.canonical.specs.Canonical.{Text, text, refuse, behind, canon_if, canonical_of}
-use Rattle.canonical.specs.Turn.{turn_of, step_piece}
+use Rattle.canonical.specs.Turn.{Turn, turn_of, step_piece}
 use Rattle.canonical.specs.StepLaws.{Rest, Turned, turned}
 
 -- a text has at most n bytes, if there is one
@@ -28,22 +25,22 @@ rest_within s (suc n) at h i =
   where
     go : ((x : ℕ) → length s - x < n → x ≤ length s → Within (4 * (length s - x)) (Rest s x))
         → (p : List ℕ) (t : Turn) → Turned s at 0 p t → Within (4 * (length s - at)) (Rest s at)
-    go ih p (Goes to len) w =
+    go ih p (Ok (Some q)) w =
         let g = w.0 in
         subst (Within (4 * (length s - at))) (sym g.rest)
-        (within_behind p (4 * (length s - to)) (4 * (length s - at)) (Rest s to) (ih to (omega arith) g.inside) (omega arith))
-    go ih p Ends w = subst (Within (4 * (length s - at))) (sym w.0) (omega arith)
-    go ih p (Fails r) w = subst (Within (4 * (length s - at))) (sym w.0) tt
+        (within_behind p (4 * (length s - q.at)) (4 * (length s - at)) (Rest s q.at) (ih q.at (omega arith) g.inside) (omega arith))
+    go ih p (Ok None) w = subst (Within (4 * (length s - at))) (sym w.0) (omega arith)
+    go ih p (Err r) w = subst (Within (4 * (length s - at))) (sym w.0) tt
 
 canonical_within : (s : List ℕ) → Within (4 * length s) (canonical_of s)
 unfolding canonical_of
 canonical_within s = go (check_of s)
   where
-    go : (x : Checked) → Within (4 * length s) (canon_if s x)
-    go Fine =
+    go : (x : Result ⊤ Refusal) → Within (4 * length s) (canon_if s x)
+    go (Ok tt) =
         let e : 4 * (length s - 0) ≡ 4 * length s = omega arith in
         subst (λ (n : ℕ). Within n (Rest s 0)) e (rest_within s (suc (length s)) 0 (omega arith) (omega arith))
-    go (Bad r) = tt
+    go (Err r) = tt
 
 -- the bound of four
 pub canonical_length : (s c : List ℕ) → canonical_of s ≡ text c → length c ≤ 4 * length s

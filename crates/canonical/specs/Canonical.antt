@@ -2,7 +2,7 @@
 -- the name without "-only", then "-or-later"", and a bare GNU name with "-only"; "If equal to the text the answer is "unchanged" and nothing is
 -- written. Otherwise it fills the front of the lent buffer; later bytes stay"; "Canonical `+` with no listed licence just before: licence";
 -- "Canonical: 2, 1, tokens with their 6, then 16".
-use Rattle.std.specs.Prelude.{ℕ, Bool, true, false, cond, not, ◌&&◌, List, [], ◌++◌, length, ltb}
+use Rattle.std.specs.Prelude.{ℕ, Bool, true, false, cond, not, ◌&&◌, List, [], ◌++◌, length, ltb, Result, Ok, Err, ⊤}
 use Rattle.text.specs.Text.{ascii, same}
 use Rattle.text.specs.Overlay.{overlay}
 use Rattle.names.specs.Lookup.{licence_name, gnu_of, is_bare, stem}
@@ -12,14 +12,12 @@ use Rattle.refusal.specs.declared.Refusal.TheVariants.{Unexpected, NoRoom}
 use Rattle.mode.specs.Modes.{lax}
 use Rattle.lexer.specs.declared.Token.{Token}
 use Rattle.lexer.specs.declared.Token.TheVariants as T
-use Rattle.lexer.specs.declared.Checked.{Checked}
-use Rattle.lexer.specs.declared.Checked.TheVariants.{Fine, Bad}
 use Rattle.lexer.specs.Lex.{check_of}
 use Rattle.lexer.specs.Tokens.{Tokens, done, refused, token, tokens_of}
 use Rattle.lexer.specs.Sign.{name, reference, unknown, exception, addition, plus, WITH, AND, OR, LP, RP, bad}
 use Rattle.lexer.specs.Spelling.{Spoken, said, spell}
 use Rattle.canonical.specs.declared.Answer.{Answer}
-use Rattle.canonical.specs.declared.Answer.TheVariants.{Unchanged, Written, Refused}
+use Rattle.canonical.specs.declared.Answer.TheVariants.{Unchanged, Written}
 
 -- a listed licence alone, and with its `+`
 unfoldable pub alone : ℕ → List ℕ
@@ -93,17 +91,17 @@ canon_from s b (token t sp ts) =
     cond (is_plus t && not b) (refuse (Unexpected sp E.Licence)) (behind (written (said s t) (plus_next ts)) (canon_from s (is_listed t) ts))
 
 -- 2 and 1 come before the tokens
-abbrev pub canon_if : List ℕ → Checked → Text
-canon_if s Fine = canon_from s false (tokens_of s lax 0)
-canon_if s (Bad r) = refuse r
+abbrev pub canon_if : List ℕ → Result ⊤ Refusal → Text
+canon_if s (Ok tt) = canon_from s false (tokens_of s lax 0)
+canon_if s (Err r) = refuse r
 
 unfoldable pub canonical_of : List ℕ → Text
 canonical_of s = canon_if s (check_of s)
 
 -- the answer, where the buffer b is lent; 16, "canonical text differs from the text and is longer than the buffer: its length"
-unfoldable pub answer_of : List ℕ → List ℕ → Text → Answer
-answer_of s b (refuse r) = Refused r
-answer_of s b (text c) = cond (same c s) Unchanged (cond (ltb (length b) (length c)) (Refused (NoRoom (length c))) (Written (length c)))
+unfoldable pub answer_of : List ℕ → List ℕ → Text → Result Answer Refusal
+answer_of s b (refuse r) = Err r
+answer_of s b (text c) = cond (same c s) (Ok Unchanged) (cond (ltb (length b) (length c)) (Err (NoRoom (length c))) (Ok (Written (length c))))
 
 -- and what the buffer holds then
 unfoldable pub buffer_of : List ℕ → List ℕ → Text → List ℕ

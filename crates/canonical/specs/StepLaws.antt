@@ -1,6 +1,7 @@
 -- Laws of a turn of the code: what it writes and where it goes on make the canonical text of what is left, and what it writes is at most four
 -- times as long as what it passes.
-use Rattle.std.specs.Prelude.{ℕ, ◌+◌, ◌-◌, ◌*◌, ◌<◌, ◌≤◌, ◌≡◌, Bool, cond, List, [], ◌++◌, length, get_or, take}
+use Rattle.lexer.specs.Step.{Step}
+use Rattle.std.specs.Prelude.{ℕ, ◌+◌, ◌-◌, ◌*◌, ◌<◌, ◌≤◌, ◌≡◌, Bool, cond, List, [], ◌++◌, length, get_or, take, Some, None, Ok, Err}
 use Rattle.std.proofs.Math.Path.{refl, ap}
 use Rattle.std.proofs.Common.{sym, ◌∙◌, true≢false, arith, length-append, length-take}
 use Rattle.std.proofs.Math.Bool.{true, false}
@@ -12,10 +13,9 @@ use Rattle.refusal.specs.Refused.{span}
 use Rattle.refusal.specs.declared.Span.{Span}
 use Rattle.mode.specs.Modes.{lax}
 use Rattle.lexer.specs.declared.Cursor.{Cursor}
+use Rattle.lexer.specs.declared.Got.{Got}
 use Rattle.lexer.specs.declared.Token.{Token}
 use Rattle.lexer.specs.declared.Token.TheVariants as T
-use Rattle.lexer.specs.declared.Step.{Step}
-use Rattle.lexer.specs.declared.Step.TheVariants.{Got, Done, Refused}
 use Rattle.lexer.specs.Lex.{got, scan_of}
 use Rattle.lexer.specs.Tokens.{Tokens, done, refused, token, and_then, tokens_of}
 use Rattle.lexer.proofs.TokensLaws.{tokens_step}
@@ -23,10 +23,8 @@ use Rattle.lexer.proofs.Ahead.{Ahead, TokenAt, scan_ahead}
 use Rattle.lexer.specs.Spelling.{said, spell, bytes_of}
 use Rattle.lexer.specs.Standing.{NameStands, Standing, StandingStep}
 use Rattle.lexer.proofs.StandingLaws.{scan_standing, plus_here, plus_there}
-use Rattle.canonical.specs.declared.Turn.{Turn}
-use Rattle.canonical.specs.declared.Turn.TheVariants.{Goes, Ends, Fails}
-use Rattle.canonical.specs.Canonical.{alone, plussed, plus_next, Text, text, refuse, behind, canon_from}
-use Rattle.canonical.specs.Turn.{plus_at, licence_piece, licence_next, token_turn, turn_of, piece, step_piece}
+use Rattle.canonical.specs.Canonical.{alone, plussed, is_plus, plus_next, Text, text, refuse, behind, canon_from}
+use Rattle.canonical.specs.Turn.{plus_at, licence_piece, licence_next, goes, Turn, goes_on, token_turn, turn_of, piece, step_piece}
 
 -- nothing before a text
 pub behind_none : (x : Text) → behind [] x ≡ x
@@ -65,20 +63,23 @@ module _ (s : List ℕ) (at : ℕ) where
   pub plus_next_lem : plus_next (tokens_of s lax at) ≡ plus_at s at
   plus_next_lem = go (plus_at s at) refl
     where
+      by : plus_at s at ≡ false → (g : Got) → scan_of s lax at ≡ Ok (Some g) → (t : Token) → g.token ≡ t → is_plus t ≡ false
+      by e g q T.And h = refl
+      by e g q T.Or h = refl
+      by e g q T.With h = refl
+      by e g q T.Plus h = absurd (true≢false (sym (is_plus_lem (plus_there s lax at g.span g.next (q ∙ ap (λ (t : Token). Ok (Some record { token = t; span = g.span; next = g.next })) h))) ∙ e))
+      by e g q T.Open h = refl
+      by e g q T.Close h = refl
+      by e g q (T.Licence k) h = refl
+      by e g q (T.Exception k) h = refl
+      by e g q (T.LicenseRef d x) h = refl
+      by e g q (T.AdditionRef d x) h = refl
+      by e g q (T.Unknown x) h = refl
+
       no : plus_at s at ≡ false → (st : Step) → scan_of s lax at ≡ st → plus_next (and_then st (tokens_of s lax)) ≡ false
-      no e Done q = refl
-      no e (Refused r) q = refl
-      no e (Got T.And sp nx) q = refl
-      no e (Got T.Or sp nx) q = refl
-      no e (Got T.With sp nx) q = refl
-      no e (Got T.Plus sp nx) q = absurd (true≢false (sym (is_plus_lem (plus_there s lax at sp nx q)) ∙ e))
-      no e (Got T.Open sp nx) q = refl
-      no e (Got T.Close sp nx) q = refl
-      no e (Got (T.Licence k) sp nx) q = refl
-      no e (Got (T.Exception k) sp nx) q = refl
-      no e (Got (T.LicenseRef d n) sp nx) q = refl
-      no e (Got (T.AdditionRef d n) sp nx) q = refl
-      no e (Got (T.Unknown n) sp nx) q = refl
+      no e (Ok None) q = refl
+      no e (Err r) q = refl
+      no e (Ok (Some g)) q = by e g q g.token refl
 
       go : (b : Bool) → plus_at s at ≡ b → plus_next (tokens_of s lax at) ≡ b
       go true e = ap plus_next (tokens_plus e)
@@ -155,9 +156,9 @@ pub record Going (s : List ℕ) (at : ℕ) (p : List ℕ) (to : ℕ) : Type 0 wh
 
 -- what a turn from a place says of the rest, where n bytes are written before it and p by it
 abbrev pub Turned : List ℕ → ℕ → ℕ → List ℕ → Turn → Type 0
-Turned s at n p (Goes to len) = Going s at p to × (len ≡ n + length p)
-Turned s at n p Ends = (Rest s at ≡ text []) × (p ≡ [])
-Turned s at n p (Fails r) = (Rest s at ≡ refuse r) × (p ≡ [])
+Turned s at n p (Ok (Some q)) = Going s at p q.at × (q.len ≡ n + length p)
+Turned s at n p (Ok None) = (Rest s at ≡ text []) × (p ≡ [])
+Turned s at n p (Err r) = (Rest s at ≡ refuse r) × (p ≡ [])
 
 module _ (s : List ℕ) (at : ℕ) where
   -- the rest, where the step is known
@@ -167,41 +168,41 @@ module _ (s : List ℕ) (at : ℕ) where
   module _ (n : ℕ) (sp : Span) (nx : Cursor) (a : TokenAt s lax at sp nx) where
     -- a token that is no licence and no `+`
     piece_goes : (p : List ℕ) → Rest s at ≡ behind p (Rest s nx.at) → length p ≤ 4 * (sp.end - sp.start)
-        → Turned s at n p (Goes nx.at (n + length p))
+        → Turned s at n p (Ok (Some (goes nx.at (n + length p))))
     piece_goes p e h =
         (record { rest = e; ahead = omega arith; inside = omega arith; cost = omega arith }, refl)
 
     -- one that is written as it stands
-    stands_goes : (p : List ℕ) → Rest s at ≡ behind p (Rest s nx.at) → bytes_of s sp ≡ p → Turned s at n p (Goes nx.at (n + length p))
+    stands_goes : (p : List ℕ) → Rest s at ≡ behind p (Rest s nx.at) → bytes_of s sp ≡ p → Turned s at n p (Ok (Some (goes nx.at (n + length p))))
     stands_goes p e q =
         piece_goes p e (omega (arith, ap length q, part_length sp.start sp.end s (omega arith) a.inside))
 
     licence_goes : (k : ℕ) → Rest s at ≡ behind (licence_piece s k nx.at) (Rest s (licence_next s nx.at)) → NameStands k sp
-        → Turned s at n (licence_piece s k nx.at) (Goes (licence_next s nx.at) (n + length (licence_piece s k nx.at)))
+        → Turned s at n (licence_piece s k nx.at) (Ok (Some (goes (licence_next s nx.at) (n + length (licence_piece s k nx.at)))))
     licence_goes k e w =
         let h = licence_next_lem s nx.at (omega arith) in
         (record { rest = e; ahead = omega arith; inside = h.1; cost = omega (arith, licence_cost s k nx.at, w.room) }, refl)
 
   -- the turn of each token
-  token_turned : (n : ℕ) (t : Token) (sp : Span) (nx : Cursor) → scan_of s lax at ≡ Got t sp nx → TokenAt s lax at sp nx → Standing s t sp
-      → Turned s at n (piece s t nx.at) (token_turn s n t sp nx.at)
+  token_turned : (n : ℕ) (t : Token) (sp : Span) (nx : Cursor) → scan_of s lax at ≡ Ok (Some record { token = t; span = sp; next = nx }) → TokenAt s lax at sp nx → Standing s t sp
+      → Turned s at n (piece s t nx.at) (goes_on (token_turn s n t sp nx.at))
   unfolding canon_from
-  token_turned n T.And sp nx e a w = piece_goes n sp nx a (ascii " AND ") (rest_by (Got T.And sp nx) e) (omega arith)
-  token_turned n T.Or sp nx e a w = piece_goes n sp nx a (ascii " OR ") (rest_by (Got T.Or sp nx) e) (omega arith)
-  token_turned n T.With sp nx e a w = piece_goes n sp nx a (ascii " WITH ") (rest_by (Got T.With sp nx) e) (omega arith)
-  token_turned n T.Plus sp nx e a w = (rest_by (Got T.Plus sp nx) e, refl)
-  token_turned n T.Open sp nx e a w = piece_goes n sp nx a (ascii "(") (rest_by (Got T.Open sp nx) e) (omega arith)
-  token_turned n T.Close sp nx e a w = piece_goes n sp nx a (ascii ")") (rest_by (Got T.Close sp nx) e) (omega arith)
+  token_turned n T.And sp nx e a w = piece_goes n sp nx a (ascii " AND ") (rest_by _ e) (omega arith)
+  token_turned n T.Or sp nx e a w = piece_goes n sp nx a (ascii " OR ") (rest_by _ e) (omega arith)
+  token_turned n T.With sp nx e a w = piece_goes n sp nx a (ascii " WITH ") (rest_by _ e) (omega arith)
+  token_turned n T.Plus sp nx e a w = (rest_by _ e, refl)
+  token_turned n T.Open sp nx e a w = piece_goes n sp nx a (ascii "(") (rest_by _ e) (omega arith)
+  token_turned n T.Close sp nx e a w = piece_goes n sp nx a (ascii ")") (rest_by _ e) (omega arith)
   token_turned n (T.Licence k) sp nx e a w =
-      licence_goes n sp nx a k (rest_by (Got (T.Licence k) sp nx) e ∙ licence_rest s nx.at k) w
+      licence_goes n sp nx a k (rest_by _ e ∙ licence_rest s nx.at k) w
   token_turned n (T.Exception k) sp nx e a w =
-      stands_goes n sp nx a (spell (said s (T.Exception k))) (rest_by (Got (T.Exception k) sp nx) e) w.1
+      stands_goes n sp nx a (spell (said s (T.Exception k))) (rest_by _ e) w.1
   token_turned n (T.LicenseRef d x) sp nx e a w =
-      stands_goes n sp nx a (spell (said s (T.LicenseRef d x))) (rest_by (Got (T.LicenseRef d x) sp nx) e) w
+      stands_goes n sp nx a (spell (said s (T.LicenseRef d x))) (rest_by _ e) w
   token_turned n (T.AdditionRef d x) sp nx e a w =
-      stands_goes n sp nx a (spell (said s (T.AdditionRef d x))) (rest_by (Got (T.AdditionRef d x) sp nx) e) w
+      stands_goes n sp nx a (spell (said s (T.AdditionRef d x))) (rest_by _ e) w
   token_turned n (T.Unknown x) sp nx e a w =
-      stands_goes n sp nx a (spell (said s (T.Unknown x))) (rest_by (Got (T.Unknown x) sp nx) e) w
+      stands_goes n sp nx a (spell (said s (T.Unknown x))) (rest_by _ e) w
 
   -- every turn, by the step from a place: so `turn_of` and `stepPiece` say what the canonical text of the rest begins with and where it goes on
   pub turned : (n : ℕ) → Turned s at n (step_piece s (scan_of s lax at)) (turn_of s n (scan_of s lax at))
@@ -209,6 +210,6 @@ module _ (s : List ℕ) (at : ℕ) where
   turned n = go (scan_of s lax at) refl (scan_ahead s lax at) (scan_standing s lax at)
     where
       go : (st : Step) → scan_of s lax at ≡ st → Ahead s lax at st → StandingStep s st → Turned s at n (step_piece s st) (turn_of s n st)
-      go Done e a w = (rest_by Done e, refl)
-      go (Refused r) e a w = (rest_by (Refused r) e, refl)
-      go (Got t sp nx) e a w = token_turned n t sp nx e a w
+      go (Ok None) e a w = (rest_by (Ok None) e, refl)
+      go (Err r) e a w = (rest_by (Err r) e, refl)
+      go (Ok (Some g)) e a w = token_turned n g.token g.span g.next e a w

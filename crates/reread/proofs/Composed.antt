@@ -1,5 +1,5 @@
 -- The canonical text of a text whose tokens are an expression is the spelling of its settled tokens.
-use Rattle.std.specs.Prelude.{◌≡◌, Bool, true, cond, ◌&&◌, ℕ}
+use Rattle.std.specs.Prelude.{◌≡◌, Bool, true, cond, ◌&&◌, ℕ, Option, Some, None, Ok}
 use Rattle.std.proofs.Math.Path.{refl, ap}
 use Rattle.std.proofs.Common.{sym, ◌∙◌}
 use Rattle.std.proofs.Math.Bool.{false, not}
@@ -7,8 +7,6 @@ use Rattle.std.proofs.lemmas.Bool.{false≢true}
 use mathlib.Core.List.{List, [], ◌∷◌, ◌++◌, append_assoc, append-nil}
 use Rattle.text.specs.Text.{ascii}
 use Rattle.text.specs.Tests.{cond_false}
-use Rattle.names.specs.declared.Found.{Found}
-use Rattle.names.specs.declared.Found.TheVariants.{At, Nothing}
 use Rattle.names.specs.Lookup.{licence_name, gnu_of, is_later, is_bare, stem, later_of, only_of}
 use Rattle.names.proofs.Laws.{at_nothing}
 use Rattle.names.proofs.Partners.{later_partner, only_partner, only_bare, bare_has_only, gnu_has_later}
@@ -18,7 +16,6 @@ use Rattle.mode.specs.declared.Mode.{Mode}
 use Rattle.mode.specs.Modes.{lax}
 use Rattle.lexer.specs.declared.Token.{Token}
 use Rattle.lexer.specs.declared.Token.TheVariants as T
-use Rattle.lexer.specs.declared.Checked.TheVariants.{Fine}
 use Rattle.lexer.specs.Lex.{check_of}
 use Rattle.lexer.specs.Tokens.{Tokens, done, refused, token, tokens_of}
 use Rattle.lexer.specs.Sign.{name, reference, unknown, exception, addition, plus, WITH, AND, OR, LP, RP, bad}
@@ -37,11 +34,11 @@ single_spelled : (k : ℕ) → spell_all (single k) ≡ alone k
 unfolding spell_all alone
 single_spelled k = go (only_of k) refl (is_bare k) refl
   where
-    go : (f : Found) → only_of k ≡ f → (b : Bool) → is_bare k ≡ b → licence_name (or_self k f) ++ [] ≡ licence_name k ++ cond b (ascii "-only") []
-    go (At j) e true q = append-nil (licence_name j) ∙ (only_partner k j e).named
-    go (At j) e false q = absurd (false≢true (sym q ∙ only_bare k j e))
-    go Nothing e true q = let w = bare_has_only k q in at_nothing (only_of k) w.0 w.1 e
-    go Nothing e false q = refl
+    go : (f : Option ℕ) → only_of k ≡ f → (b : Bool) → is_bare k ≡ b → licence_name (or_self k f) ++ [] ≡ licence_name k ++ cond b (ascii "-only") []
+    go (Some j) e true q = append-nil (licence_name j) ∙ (only_partner k j e).named
+    go (Some j) e false q = absurd (false≢true (sym q ∙ only_bare k j e))
+    go None e true q = let w = bare_has_only k q in at_nothing (only_of k) w.0 w.1 e
+    go None e false q = refl
 
 later_spelled : (k : ℕ) → gnu_of k ≡ true → is_later k ≡ false → licence_name (or_self k (later_of k)) ≡ stem (licence_name k) ++ ascii "-or-later"
 later_spelled k g l =
@@ -150,7 +147,7 @@ module _ (s : List ℕ) where
       ∙ ap text (sym (spell_append (settle x b (plus_first w)) (settled_from (is_name x) w)))
 
   -- of a text that may be read
-  pub composed : check_of s ≡ Fine → {m : Mode} {t : Tree (Item Naming (Unit {0}))} → Expression m (heard s lax 0) t
+  pub composed : check_of s ≡ (Ok tt) → {m : Mode} {t : Tree (Item Naming (Unit {0}))} → Expression m (heard s lax 0) t
       → canonical_of s ≡ text (spell_all (settled (heard s lax 0)))
   unfolding canonical_of heard settled
   composed e d = ap (canon_if s) e ∙ from_spelled false (tokens_of s lax 0) (expression_plusses (said_of s (tokens_of s lax 0)) d)

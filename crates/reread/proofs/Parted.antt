@@ -1,12 +1,11 @@
 -- The signs of an expression can be told apart when they are spelled one behind the other, and are known, before they are settled and after.
-use Rattle.std.specs.Prelude.{ℕ, ◌<◌, ◌≡◌, refl, Bool, true, false, not, ◌&&◌, List, [], ◌∷◌, ◌++◌, length}
+use Rattle.lexer.proofs.Back.{follows_apart}
+use Rattle.std.specs.Prelude.{ℕ, ◌<◌, ◌≡◌, refl, Bool, true, false, not, ◌&&◌, List, [], ◌∷◌, ◌++◌, length, Option, Some, None}
 use Rattle.std.proofs.Common.{append_assoc, append-nil}
 use Rattle.text.specs.Tests.{by_cond}
 use Rattle.names.specs.Lookup.{gnu_of, later_of, only_of}
 use Rattle.names.specs.Listed.{listed}
 use Rattle.names.proofs.Partners.{later_partner, only_partner}
-use Rattle.names.specs.declared.Found.{Found}
-use Rattle.names.specs.declared.Found.TheVariants.{At, Nothing}
 use Rattle.mode.specs.declared.Mode.{Mode}
 use Rattle.lexer.specs.Sign.{name, reference, unknown, exception, addition, plus, WITH, AND, OR, LP, RP, bad}
 use Rattle.lexer.specs.Spelling.{Naming, Spoken}
@@ -70,10 +69,6 @@ derives_follows (joined {s} {z} d f) x h w e =
 derives_follows (one d) x h w e = derives_follows d x h w e
 derives_follows (choice {s} {z} d f) x h w e =
     rw (append_assoc s (OR ∷ z) w) (derives_follows d x h (OR ∷ (z ++ w)) (refl, refl, derives_follows f OR refl w e))
-
-follows_apart : (x : Spoken) (w : List Spoken) → Follows x w → Apart w
-follows_apart x [] h = tt
-follows_apart x (y ∷ w) h = h.1
 
 -- the signs of an expression can be told apart when spelled one behind the other
 pub derives_apart : {m : Mode} {v : Level} {w : List Spoken} {t : Tree Entry} → Derives m v w t → Apart w
@@ -151,16 +146,16 @@ known_append (x ∷ a) b h k = (h.0, known_append a b h.1 k)
 only_within : (k : ℕ) → k < length listed → or_self k (only_of k) < length listed
 only_within k h = go (only_of k) refl
   where
-    go : (f : Found) → only_of k ≡ f → or_self k f < length listed
-    go (At j) e = (only_partner k j e).within
-    go Nothing e = h
+    go : (f : Option ℕ) → only_of k ≡ f → or_self k f < length listed
+    go (Some j) e = (only_partner k j e).within
+    go None e = h
 
 later_within : (k : ℕ) → k < length listed → or_self k (later_of k) < length listed
 later_within k h = go (later_of k) refl
   where
-    go : (f : Found) → later_of k ≡ f → or_self k f < length listed
-    go (At j) e = (later_partner k j e).within
-    go Nothing e = h
+    go : (f : Option ℕ) → later_of k ≡ f → or_self k f < length listed
+    go (Some j) e = (later_partner k j e).within
+    go None e = h
 
 settle_known : (x : Spoken) (b c : Bool) → Known x → AllKnown (settle x b c)
 settle_known (name k p) b c h =

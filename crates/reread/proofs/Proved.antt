@@ -1,13 +1,12 @@
 -- The second demand's last sentence, proved: a text that reads in LAX keeps what Reread.antt promises of it. And what it comes to for a caller: of a
 -- canonical text the answer is "unchanged".
-use Rattle.std.specs.Prelude.{◌≡◌, refl, List, ℕ, ◌≤◌, length}
-use Rattle.std.proofs.Common.{sym, ◌∙◌, ap, subst, arith}
+use Rattle.std.specs.Prelude.{◌≡◌, refl, List, ℕ, ◌≤◌, length, Ok, IsOk}
+use Rattle.std.proofs.Common.{sym, ◌∙◌, ap, subst, true≢false}
 use Rattle.text.specs.Text.{same}
 use Rattle.text.specs.Tests.{cond_true}
 use Rattle.text.specs.TextLaws.{same_refl}
 use Rattle.mode.specs.declared.Mode.{Mode}
 use Rattle.mode.specs.Modes.{strict, lax}
-use Rattle.lexer.specs.declared.Checked.TheVariants.{Fine}
 use Rattle.lexer.specs.Lex.{check_of}
 use Rattle.lexer.specs.Tokens.{tokens_of}
 use Rattle.lexer.specs.Spelling.{Spoken, heard, spell_all}
@@ -16,7 +15,6 @@ use Rattle.lexer.proofs.StandingLaws.{heard_known}
 use Rattle.lexer.proofs.Back.{heard_back}
 use Rattle.grammar.specs.declared.Leaf.{Leaf}
 use Rattle.grammar.specs.declared.Node.{Node}
-use Rattle.grammar.specs.declared.Outcome.TheVariants as O
 use Rattle.grammar.specs.Tree.{Tree, seen}
 use Rattle.grammar.specs.Grammar.{Result, got, refused, parse_of}
 use Rattle.grammar.specs.Grammar as Grammar
@@ -41,7 +39,7 @@ module _ (w : List Spoken) (known : AllKnown w) (t : Tree Entry) (fits : Fits st
   back : (m : Mode) → heard (spell_all w) m 0 ≡ w
   back m = heard_back m w known (derives_apart fits.derives)
 
-  fine : check_of (spell_all w) ≡ Fine
+  fine : check_of (spell_all w) ≡ (Ok tt)
   fine = spelled_fine w known short
 
   -- the text reads to their tree
@@ -81,7 +79,7 @@ reread s t r =
     }
 
 -- a text that is its own canonical text is answered by "unchanged", and the buffer b stays as it is
-pub own_unchanged : (c : List ℕ) → canonical_of c ≡ text c → (b : List ℕ) → answer_of c b (canonical_of c) ≡ Unchanged
+pub own_unchanged : (c : List ℕ) → canonical_of c ≡ text c → (b : List ℕ) → answer_of c b (canonical_of c) ≡ Ok Unchanged
 unfolding answer_of
 own_unchanged c e b = ap (answer_of c b) e ∙ cond_true (same c c) _ _ (same_refl c)
 
@@ -91,7 +89,7 @@ own_buffer c e b = ap (buffer_of c b) e ∙ cond_true (same c c) _ _ (same_refl 
 
 -- so is the canonical text c of a text that reads in LAX
 pub reread_unchanged : (s : List ℕ) (t : Tree Leaf) → Reads s lax t → (c : List ℕ) → canonical_of s ≡ text c → length c ≤ 1024
-    → (b : List ℕ) → (answer_of c b (canonical_of c) ≡ Unchanged) × (buffer_of c b (canonical_of c) ≡ b)
+    → (b : List ℕ) → (answer_of c b (canonical_of c) ≡ Ok Unchanged) × (buffer_of c b (canonical_of c) ≡ b)
 reread_unchanged s t r c e h b =
     let x : Reread s t = reread s t r in
     let p : text x.canon ≡ text c = sym x.is ∙ e in
@@ -100,15 +98,15 @@ reread_unchanged s t r c e h b =
     (own_unchanged c z b, own_buffer c z b)
 
 -- a text that `parse` answers "read" reads to a tree
-pub reads_some : (s : List ℕ) (m : Mode) → (Grammar.answer_of (parse_of s m)).outcome ≡ O.Read → (t : Tree Leaf) × Reads s m t
+pub reads_some : (s : List ℕ) (m : Mode) → IsOk (Grammar.answer_of (parse_of s m)) → (t : Tree Leaf) × Reads s m t
 reads_some s m h = go (parse_of s m) refl h
   where
-    go : (r : Result) → parse_of s m ≡ r → (Grammar.answer_of r).outcome ≡ O.Read → (t : Tree Leaf) × Reads s m t
+    go : (r : Result) → parse_of s m ≡ r → IsOk (Grammar.answer_of r) → (t : Tree Leaf) × Reads s m t
     go (got q b ts) e h =
         let x = reads_derive (spelled s) s m e in
         (x.0, record { last = b; rest = ts; reads = e ∙ ap (λ (n : List Node). got n b ts) x.2 })
-    go (refused r) e h = let z : ◌≡◌ {A = ℕ} 0 1 = cc in absurd (omega arith)
+    go (refused r) e h = absurd (true≢false (sym h))
 
 -- so the promise is kept of every text that `parse` answers "read" in LAX
-pub demand : (s : List ℕ) → (Grammar.answer_of (parse_of s lax)).outcome ≡ O.Read → (t : Tree Leaf) × Reads s lax t × Reread s t
+pub demand : (s : List ℕ) → IsOk (Grammar.answer_of (parse_of s lax)) → (t : Tree Leaf) × Reads s lax t × Reread s t
 demand s h = let x = reads_some s lax h in (x.0, x.1, reread s x.0 x.1)

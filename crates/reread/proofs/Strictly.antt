@@ -1,10 +1,8 @@
 -- An expression of LAX, settled, is one of STRICT.
-use Rattle.std.specs.Prelude.{ℕ, suc, ◌≡◌, refl, Bool, true, false, List, [], ◌∷◌, ◌++◌}
+use Rattle.std.specs.Prelude.{ℕ, suc, ◌≡◌, refl, Bool, true, false, List, [], ◌∷◌, ◌++◌, Option, Some, None}
 use Rattle.std.proofs.Common.{ap, arith}
 use Rattle.names.specs.Lookup.{deprecated_of, is_bare, only_of}
 use Rattle.names.proofs.Partners.{later_partner, only_partner, bare_has_only, settled_current, settled_no_only, other_settled}
-use Rattle.names.specs.declared.Found.{Found}
-use Rattle.names.specs.declared.Found.TheVariants.{At, Nothing}
 use Rattle.mode.specs.Modes.{strict, lax}
 use Rattle.lexer.specs.Sign.{unknown, WITH, AND, OR, LP, RP}
 use Rattle.lexer.specs.Spelling.{Naming, Spoken}
@@ -27,13 +25,13 @@ allowed k e = rw e
 pub only_current : (k : ℕ) → deprecated_of (or_self k (only_of k)) ≡ false
 only_current k = go (only_of k) refl
   where
-    bare_not : (b : Bool) → is_bare k ≡ b → only_of k ≡ Nothing → is_bare k ≡ false
+    bare_not : (b : Bool) → is_bare k ≡ b → only_of k ≡ None → is_bare k ≡ false
     bare_not true e q = let w = bare_has_only k e in let z : ◌≡◌ {A = ℕ} 0 1 = cc w.1 in absurd (omega arith)
     bare_not false e q = e
 
-    go : (f : Found) → only_of k ≡ f → deprecated_of (or_self k f) ≡ false
-    go (At j) e = (only_partner k j e).current
-    go Nothing e = settled_current k (bare_not (is_bare k) refl e)
+    go : (f : Option ℕ) → only_of k ≡ f → deprecated_of (or_self k f) ≡ false
+    go (Some j) e = (only_partner k j e).current
+    go None e = settled_current k (bare_not (is_bare k) refl e)
 
 -- a name that is not bare is its own "-only" name
 pub only_self : (k : ℕ) → is_bare k ≡ false → or_self k (only_of k) ≡ k

@@ -1,6 +1,5 @@
 -- Known tokens are spelled in ASCII, so their spelling is well-formed, and may be read if it is short enough.
-use Rattle.std.specs.Prelude.{◌≡◌, refl, Bool, true, List, [], ◌∷◌, ◌++◌, ℕ, ◌≤◌, length}
-use Rattle.std.proofs.Math.Option.{Option, none, some}
+use Rattle.std.specs.Prelude.{◌≡◌, refl, Bool, true, List, [], ◌∷◌, ◌++◌, ℕ, ◌≤◌, length, Ok, Option, Some, None}
 use Rattle.std.proofs.Common.{le-leb}
 use Rattle.text.specs.Text.{ascii}
 use Rattle.text.specs.Every.{all_of, All, all_of_lem, all_append}
@@ -10,7 +9,6 @@ use Rattle.utf8.specs.Utf8.{ascii_byte}
 use Rattle.utf8.specs.Laws.{ascii_well}
 use Rattle.names.specs.Lookup.{licence_name, exception_name}
 use Rattle.names.specs.Shape.{licence_proper, exception_proper}
-use Rattle.lexer.specs.declared.Checked.TheVariants.{Fine}
 use Rattle.lexer.specs.Lex.{check_of}
 use Rattle.lexer.proofs.Agree.{check_fine}
 use Rattle.lexer.specs.Sign.{name, reference, unknown, exception, addition, plus, WITH, AND, OR, LP, RP, bad}
@@ -30,8 +28,8 @@ ref_low n a = all_low ref_byte (λ b e. run_ascii b (ref_run b e)) n a
 
 doc_low : (d : Option (List ℕ)) (w : List ℕ) → KnownDoc d → All ascii_byte w → All ascii_byte (behind_doc d w)
 unfolding all_of
-doc_low none w g a = a
-doc_low (some d) w g a =
+doc_low None w g a = a
+doc_low (Some d) w g a =
     all_append ascii_byte (ascii "DocumentRef-") (d ++ (ascii ":" ++ w)) (all_of_lem ascii_byte (ascii "DocumentRef-") refl)
     (all_append ascii_byte d (ascii ":" ++ w) (ref_low d g) (refl, a))
 
@@ -64,5 +62,5 @@ unfolding all_of
 all_test p [] a = refl
 all_test p (b ∷ s) a = rw a.0 (all_test p s a.1)
 
-pub spelled_fine : (w : List Spoken) → AllKnown w → length (spell_all w) ≤ 1024 → check_of (spell_all w) ≡ Fine
+pub spelled_fine : (w : List Spoken) → AllKnown w → length (spell_all w) ≤ 1024 → check_of (spell_all w) ≡ (Ok tt)
 spelled_fine w g h = check_fine (spell_all w) h (ascii_well (spell_all w) (all_test ascii_byte (spell_all w) (spelled_low w g)))

@@ -1,10 +1,8 @@
 -- The second demand's last sentence: "A text that reads in LAX, with canonical text of at most 1,024 bytes, has a canonical text that reads in
 -- STRICT to the same tree, spans aside and bare GNU names taken as "-only""; document 01: "Trees compare references by their bytes". And the
 -- canonical text of such a canonical text is itself.
-use Rattle.std.specs.Prelude.{ℕ, ◌≤◌, ◌≡◌, List, length}
+use Rattle.std.specs.Prelude.{ℕ, ◌≤◌, ◌≡◌, List, length, Option, Some, None}
 use Rattle.names.specs.Lookup.{only_of}
-use Rattle.names.specs.declared.Found.{Found}
-use Rattle.names.specs.declared.Found.TheVariants.{At, Nothing}
 use Rattle.mode.specs.declared.Mode.{Mode}
 use Rattle.mode.specs.Modes.{strict}
 use Rattle.lexer.specs.Tokens.{Tokens}
@@ -28,9 +26,9 @@ abbrev pub by_bytes : List ℕ → Tree Leaf → Tree (Item Naming (Unit {0}))
 by_bytes s t = seen (item_of (spelled s)) t
 
 -- a bare GNU name taken as "-only": the place of the name that is found, if one is
-abbrev pub or_self : ℕ → Found → ℕ
-or_self k (At j) = j
-or_self k Nothing = k
+abbrev pub or_self : ℕ → Option ℕ → ℕ
+or_self k (Some j) = j
+or_self k None = k
 
 abbrev pub only : {R : Type 0} → Named R → Named R
 only (listed k) = listed (or_self k (only_of k))

@@ -1,11 +1,8 @@
 -- The annex sees a text's tokens by their bytes as the lexer spells them.
-use Rattle.std.specs.Prelude.{◌≡◌, refl, List, ℕ}
+use Rattle.std.specs.Prelude.{◌≡◌, refl, List, ℕ, Some, None, Option}
 use Rattle.std.proofs.Common.{ap}
-use Rattle.std.proofs.Math.Option.{Option}
 use Rattle.refusal.specs.declared.Span.{Span}
 use Rattle.mode.specs.declared.Mode.{Mode}
-use Rattle.lexer.specs.declared.Doc.{Doc}
-use Rattle.lexer.specs.declared.Doc.TheVariants as D
 use Rattle.lexer.specs.declared.Token.{Token}
 use Rattle.lexer.specs.declared.Token.TheVariants as T
 use Rattle.lexer.specs.Tokens.{Tokens, done, refused, token, tokens_of}
@@ -15,9 +12,9 @@ use Rattle.grammar.specs.Leaves.{part_of}
 use Rattle.annex.specs.Signs.{document, spelled, sign_of, signs_of}
 
 module _ (s : List ℕ) where
-  same_document : (d : Doc) → document s (part_of d) ≡ doc_bytes s d
-  same_document D.Absent = refl
-  same_document (D.Part r) = refl
+  same_document : (d : Option Span) → document s (part_of d) ≡ doc_bytes s d
+  same_document None = refl
+  same_document (Some r) = refl
 
   sign_said : (t : Token) (sp : Span) → sign_of (spelled s) t sp ≡ said s t
   sign_said T.And sp = refl
