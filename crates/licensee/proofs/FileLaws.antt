@@ -2,7 +2,7 @@
 use Prim.Native.Nat.{ℕ, zero, suc, ◌+◌, ◌-◌, ◌*◌, ◌≤◌, ◌<◌}
 use Rattle.std.proofs.Math.Path.{◌≡◌, refl, sym, ap, subst}
 use Rattle.std.proofs.Common.{◌∙◌}
-use Rattle.std.specs.Prelude.{Bool, not, ◌&&◌, ◌||◌, set, replicate}
+use Rattle.std.specs.Prelude.{Bool, not, ◌&&◌, ◌||◌, set, replicate, Ok, Err}
 use Rattle.std.proofs.Math.Bool.{true, false, cond, true≢false}
 use mathlib.Core.List.{List, [], ◌∷◌, ◌++◌, append_assoc, map, map-append}
 use native.Mathlib.Omega.{arith}
@@ -18,15 +18,10 @@ use Rattle.refusal.specs.Refused.{span}
 use Rattle.refusal.specs.declared.Span.{Span}
 use Rattle.refusal.specs.declared.Refusal.{Refusal}
 use Rattle.refusal.specs.declared.Refusal.TheVariants.{BadList}
-use Rattle.grammar.specs.declared.Outcome.TheVariants as O
 use Rattle.licensee.specs.declared.Licensee.{Licensee}
-use Rattle.licensee.specs.declared.Body.{Body}
-use Rattle.licensee.specs.declared.Body.TheVariants as B
 use Rattle.licensee.specs.declared.Terms.{Terms}
-use Rattle.licensee.specs.declared.Accepted.{Accepted}
-use Rattle.licensee.specs.declared.Listed.TheVariants.{Valid, Refused}
-use Rattle.licensee.specs.Offers.{body_of, at16, count, offset, size, placed, offer_of, wrong_entry, Accepts, good, wrong, before, entry_then, entries_from, contents, list_of, checked_of, has_entry, entry_of, entry_at, place_of}
-use Rattle.licensee.specs.Terms.{offered_terms, padded, kinds_of, licences_of, additions_of, accepted_of, SmallLicensee, SmallAll, SmallList}
+use Rattle.licensee.specs.Offers.{Body, body_of, at16, count, offset, size, placed, offer_of, wrong_entry, Accepts, good, wrong, before, entry_then, entries_from, contents, list_of, checked_of, has_entry, entry_of, entry_at, place_of}
+use Rattle.licensee.specs.Terms.{offered_terms, blank, padded, accepted_of, SmallLicensee, SmallAll, SmallList}
 
 -- ---- an entry
 
@@ -64,11 +59,11 @@ module _ (f : List ℕ) (i a : ℕ) where
       go true e = absurd (n (placed_is e))
       go false e = refl
 
-  pub offer_is : (l : Licensee) → offer_of f i a ≡ B.Is l → Placed f i a
+  pub offer_is : (l : Licensee) → offer_of f i a ≡ Ok l → Placed f i a
   unfolding offer_of
   offer_is l e = go (placed f i a) refl e
     where
-      go : (b : Bool) → placed f i a ≡ b → cond b (body_of i a (part a (a + size f i) f)) (wrong_entry i) ≡ B.Is l → Placed f i a
+      go : (b : Bool) → placed f i a ≡ b → cond b (body_of i a (part a (a + size f i) f)) (wrong_entry i) ≡ Ok l → Placed f i a
       go true q h = placed_is q
       go false q h = absurd (let z : ◌≡◌ {A = ℕ} 0 1 = cc in omega arith)
 
@@ -117,11 +112,11 @@ module _ (f : List ℕ) (i a : ℕ) where
   unfolding entries_from
   entries_after n = rw (ne_eqb a (length f) n)
 
-  pub entries_wrong : (n : ℕ) (r : Refusal) → offer_of f i a ≡ B.Refused r → entries_from f (suc n) i a ≡ wrong r
+  pub entries_wrong : (n : ℕ) (r : Refusal) → offer_of f i a ≡ Err r → entries_from f (suc n) i a ≡ wrong r
   unfolding entries_from
   entries_wrong n r e = ap (λ (b : Body). entry_then b (entries_from f n (i + 1) (a + size f i))) e
 
-  pub entries_on : (n : ℕ) (l : Licensee) → offer_of f i a ≡ B.Is l → entries_from f (suc n) i a ≡ before l (entries_from f n (i + 1) (a + size f i))
+  pub entries_on : (n : ℕ) (l : Licensee) → offer_of f i a ≡ Ok l → entries_from f (suc n) i a ≡ before l (entries_from f n (i + 1) (a + size f i))
   unfolding entries_from
   entries_on n l e = ap (λ (b : Body). entry_then b (entries_from f n (i + 1) (a + size f i))) e
 
@@ -150,60 +145,38 @@ small_one : (ls : List Licensee) (l : Licensee) → SmallAll ls → SmallLicense
 small_one [] l s k = (k, tt)
 small_one (m ∷ ls) l s k = (s.0, small_one ls l s.1 k)
 
--- the numbers of licensees, whichever of the three
-abbrev pub kind_of : Licensee → ℕ
-kind_of l = (offered_terms l).kinds
-
-abbrev pub licence_of : Licensee → ℕ
-licence_of l = (offered_terms l).licence
-
-abbrev pub addition_of : Licensee → ℕ
-addition_of l = (offered_terms l).addition
-
-kinds_map : (ls : List Licensee) → map kind_of ls ≡ kinds_of ls
-kinds_map [] = refl
-kinds_map (l ∷ ls) = ap (λ (r : List ℕ). kind_of l ∷ r) (kinds_map ls)
-
-licences_map : (ls : List Licensee) → map licence_of ls ≡ licences_of ls
-licences_map [] = refl
-licences_map (l ∷ ls) = ap (λ (r : List ℕ). licence_of l ∷ r) (licences_map ls)
-
-additions_map : (ls : List Licensee) → map addition_of ls ≡ additions_of ls
-additions_map [] = refl
-additions_map (l ∷ ls) = ap (λ (r : List ℕ). addition_of l ∷ r) (additions_map ls)
-
--- a store behind the last number
-pad_store : (q : List ℕ) (i x : ℕ) → length q ≡ i → i < 64 → set (padded q) i x ≡ padded (q ++ (x ∷ []))
+-- a store behind the last terms
+pad_store : (q : List Terms) (i : ℕ) (x : Terms) → length q ≡ i → i < 64 → set (padded q) i x ≡ padded (q ++ (x ∷ []))
 pad_store q i x e h =
     let z : 64 - length q ≡ suc (64 - (length q + 1)) = omega arith in
     ap (λ (n : ℕ). set (padded q) n x) (sym e)
-    ∙ ap (λ (n : ℕ). set (q ++ replicate n 0) (length q) x) z
-    ∙ set-append_seam q 0 (replicate (64 - (length q + 1)) 0) x
-    ∙ sym (append_assoc q (x ∷ []) (replicate (64 - (length q + 1)) 0))
-    ∙ ap (λ (n : ℕ). (q ++ (x ∷ [])) ++ replicate (64 - n) 0) (sym (length-append q (x ∷ [])))
+    ∙ ap (λ (n : ℕ). set (q ++ replicate n blank) (length q) x) z
+    ∙ set-append_seam q blank (replicate (64 - (length q + 1)) blank) x
+    ∙ sym (append_assoc q (x ∷ []) (replicate (64 - (length q + 1)) blank))
+    ∙ ap (λ (n : ℕ). (q ++ (x ∷ [])) ++ replicate (64 - n) blank) (sym (length-append q (x ∷ [])))
 
--- an array that holds one of the numbers of each licensee, from the front
-abbrev pub Holds : (Licensee → ℕ) → List Licensee → List ℕ → Type 0
-Holds g ls w = w ≡ padded (map g ls)
+-- an array that holds the terms of each licensee, from the front
+abbrev pub Holds : List Licensee → List Terms → Type 0
+Holds ls w = w ≡ padded (map offered_terms ls)
 
-holds_more : (g : Licensee → ℕ) (ls : List Licensee) (l : Licensee) (w : List ℕ) (i x : ℕ) → length ls ≡ i → i < 64 → x ≡ g l → Holds g ls w → Holds g (ls ++ (l ∷ [])) (set w i x)
-holds_more g ls l w i x e h q p =
-    ap (λ (v : List ℕ). set v i x) p
-    ∙ pad_store (map g ls) i x (length-map ls g ∙ e) h
-    ∙ ap (λ (y : ℕ). padded (map g ls ++ (y ∷ []))) q
-    ∙ ap padded (sym (map-append g ls (l ∷ [])))
+holds_more : (ls : List Licensee) (l : Licensee) (w : List Terms) (i : ℕ) (x : Terms) → length ls ≡ i → i < 64 → x ≡ offered_terms l → Holds ls w → Holds (ls ++ (l ∷ [])) (set w i x)
+holds_more ls l w i x e h q p =
+    ap (λ (v : List Terms). set v i x) p
+    ∙ pad_store (map offered_terms ls) i x (length-map ls offered_terms ∙ e) h
+    ∙ ap (λ (y : Terms). padded (map offered_terms ls ++ (y ∷ []))) q
+    ∙ ap padded (sym (map-append offered_terms ls (l ∷ [])))
 
 -- what holds where i of c entries are read and the next body is due at a
-pub record Walk (f : List ℕ) (c : ℕ) (kinds licences additions : List ℕ) (i a : ℕ) : Type 0 where
+pub record Walk (f : List ℕ) (c : ℕ) (terms : List Terms) (i a : ℕ) : Type 0 where
   pub done : List Licensee
   pub many : length done ≡ i
   pub upto : i ≤ c
   pub due : a ≤ 257 + 200 * i
   pub small : SmallAll done
-  pub held : Holds kind_of done kinds × Holds licence_of done licences × Holds addition_of done additions
+  pub held : Holds done terms
   pub whole : entries_from f c 0 (1 + 4 * c) ≡ behind done (entries_from f (c - i) i a)
 
-pub walk_start : (f : List ℕ) (c : ℕ) → c ≤ 64 → Walk f c (replicate 64 0) (replicate 64 0) (replicate 64 0) 0 (1 + 4 * c)
+pub walk_start : (f : List ℕ) (c : ℕ) → c ≤ 64 → Walk f c (replicate 64 blank) 0 (1 + 4 * c)
 unfolding behind
 walk_start f c h =
     record {
@@ -212,17 +185,17 @@ walk_start f c h =
       upto = omega arith;
       due = omega arith;
       small = tt;
-      held = (refl, refl, refl);
+      held = refl;
       whole = ap (λ (n : ℕ). entries_from f n 0 (1 + 4 * c)) (sym (sub-zero c));
     }
 
-module _ {f : List ℕ} {c : ℕ} {kinds licences additions : List ℕ} {i a : ℕ} (w : Walk f c kinds licences additions i a) where
+module _ {f : List ℕ} {c : ℕ} {terms : List Terms} {i a : ℕ} (w : Walk f c terms i a) where
   next : i < c → entries_from f (c - i) i a ≡ entries_from f (suc (c - (i + 1))) i a
   next h = let e : c - i ≡ suc (c - (i + 1)) = omega arith in ap (λ (n : ℕ). entries_from f n i a) e
 
-  -- one licensee more, with its numbers x and its length n
-  pub walk_on : (l : Licensee) (x : Terms) (n : ℕ) → c ≤ 64 → i < c → x ≡ offered_terms l → n ≡ at16 f (3 + 4 * i) → offer_of f i a ≡ B.Is l → SmallLicensee l
-      → Walk f c (set kinds i x.kinds) (set licences i x.licence) (set additions i x.addition) (i + 1) (a + n)
+  -- one licensee more, with its terms x and its length n
+  pub walk_on : (l : Licensee) (x : Terms) (n : ℕ) → c ≤ 64 → i < c → x ≡ offered_terms l → n ≡ at16 f (3 + 4 * i) → offer_of f i a ≡ Ok l → SmallLicensee l
+      → Walk f c (set terms i x) (i + 1) (a + n)
   unfolding size
   walk_on l x n k h t q e s =
       let d = w.done in
@@ -233,11 +206,7 @@ module _ {f : List ℕ} {c : ℕ} {kinds licences additions : List ℕ} {i a : �
         upto = omega arith;
         due = omega (arith, (offer_is f i a l e).most);
         small = small_one d l w.small s;
-        held = (
-          holds_more kind_of d l kinds i x.kinds w.many b (ap (λ (y : Terms). y.kinds) t) w.held.0,
-          holds_more licence_of d l licences i x.licence w.many b (ap (λ (y : Terms). y.licence) t) w.held.1,
-          holds_more addition_of d l additions i x.addition w.many b (ap (λ (y : Terms). y.addition) t) w.held.2,
-        );
+        held = holds_more d l terms i x w.many b t w.held;
         whole =
             w.whole
             ∙ ap (behind d) (next h ∙ entries_on f i a (c - (i + 1)) l e ∙ ap (λ (m : ℕ). before l (entries_from f (c - (i + 1)) (i + 1) (a + m))) (sym q))
@@ -245,7 +214,7 @@ module _ {f : List ℕ} {c : ℕ} {kinds licences additions : List ℕ} {i a : �
       }
 
   -- an entry that is refused
-  pub walk_wrong : (r : Refusal) → i < c → offer_of f i a ≡ B.Refused r → entries_from f c 0 (1 + 4 * c) ≡ wrong r
+  pub walk_wrong : (r : Refusal) → i < c → offer_of f i a ≡ Err r → entries_from f c 0 (1 + 4 * c) ≡ wrong r
   walk_wrong r h e =
       w.whole ∙ ap (behind w.done) (next h ∙ entries_wrong f i a (c - (i + 1)) r e) ∙ behind_wrong w.done r
 
@@ -261,20 +230,11 @@ module _ {f : List ℕ} {c : ℕ} {kinds licences additions : List ℕ} {i a : �
   pub walk_end : c ≤ i → a ≡ length f → entries_from f c 0 (1 + 4 * c) ≡ good w.done
   walk_end h e = ended h ∙ ap (behind w.done) (entries_end f i a e) ∙ behind_none w.done
 
-  pub walk_read : c ≤ i → a ≡ length f → record {
-    outcome = O.Read;
-    count = c;
-    kinds = kinds;
-    licences = licences;
-    additions = additions;
-  } ≡ accepted_of (entries_from f c 0 (1 + 4 * c))
+  pub walk_read : c ≤ i → a ≡ length f → Ok (record { count = c; terms = terms }) ≡ accepted_of (entries_from f c 0 (1 + 4 * c))
   walk_read h e =
       let d = w.done in
       let n : c ≡ length d = omega (arith, w.many, w.upto) in
-      let k : kinds ≡ padded (kinds_of d) = w.held.0 ∙ ap padded (kinds_map d) in
-      let l : licences ≡ padded (licences_of d) = w.held.1 ∙ ap padded (licences_map d) in
-      let m : additions ≡ padded (additions_of d) = w.held.2 ∙ ap padded (additions_map d) in
-      (cc) ∙ ap accepted_of (sym (walk_end h e))
+      (cc w.held) ∙ ap accepted_of (sym (walk_end h e))
 
   pub walk_small : c ≤ i → a ≡ length f → SmallList (entries_from f c 0 (1 + 4 * c))
   walk_small h e = rw (walk_end h e) w.small
@@ -340,11 +300,11 @@ module _ (f : List ℕ) where
     where
       go : ((ks : List Licensee) → entries_from f n (i + 1) (a + size f i) ≡ good ks → Each n (i + 1) ks)
           → (b : Body) → offer_of f i a ≡ b → (x : Accepts) → entries_from f n (i + 1) (a + size f i) ≡ x → entry_then b x ≡ good ls → Each (suc n) i ls
-      go ih (B.Is l) p (good ks) q h =
+      go ih (Ok l) p (good ks) q h =
           let s : l ∷ ks ≡ ls = cc in
           subst (Each (suc n) i) s (each_more n i a l ks (offer_is f i a l p) (ih ks q))
-      go ih (B.Is l) p (wrong r) q h = absurd (let z : ◌≡◌ {A = ℕ} 0 1 = cc in omega arith)
-      go ih (B.Refused r) p x q h = absurd (let z : ◌≡◌ {A = ℕ} 0 1 = cc in omega arith)
+      go ih (Ok l) p (wrong r) q h = absurd (let z : ◌≡◌ {A = ℕ} 0 1 = cc in omega arith)
+      go ih (Err r) p x q h = absurd (let z : ◌≡◌ {A = ℕ} 0 1 = cc in omega arith)
 
 -- a valid file: its licensees are as many as it counts, at most 64, and each entry lies within
 pub list_count : (f : List ℕ) (ls : List Licensee) → list_of f ≡ good ls → (length ls ≡ count f) × (length ls ≤ 64)
@@ -360,16 +320,7 @@ entry_within f ls i e h =
     let g = list_good f ls e in
     (entries_are f (count f) 0 (1 + 4 * count f) ls g.1).1 i (omega arith) (omega (arith, (list_count f ls e).0))
 
--- ---- what `check` answers, and the entries by it
-
-module _ (x : Accepted) where
-  pub checked_read : (w : Accepts) → x ≡ accepted_of w → x.outcome ≡ O.Read → Valid x.count ≡ checked_of w
-  checked_read (good ls) e o = cc
-  checked_read (wrong r) e o = absurd (let z : ◌≡◌ {A = ℕ} 0 1 = cc in omega arith)
-
-  pub checked_refused : (w : Accepts) (r : Refusal) → x ≡ accepted_of w → x.outcome ≡ O.Refused r → Refused r ≡ checked_of w
-  checked_refused (good ls) r e o = absurd (let z : ◌≡◌ {A = ℕ} 0 1 = cc in omega arith)
-  checked_refused (wrong s) r e o = cc
+-- ---- the entries by what `check` answers
 
 module _ (f : List ℕ) (i : ℕ) where
   pub entry_none : has_entry i (list_of f) ≡ false → (entry_of f i ≡ []) × (entry_at f i ≡ 0)
@@ -381,23 +332,23 @@ module _ (f : List ℕ) (i : ℕ) where
   entry_some e = (cond_true (has_entry i (list_of f)) _ _ e, cond_true (has_entry i (list_of f)) _ _ e)
 
 module _ (i : ℕ) where
-  pub has_wrong : (w : Accepts) (r : Refusal) → checked_of w ≡ Refused r → has_entry i w ≡ false
+  pub has_wrong : (w : Accepts) (r : Refusal) → checked_of w ≡ Err r → has_entry i w ≡ false
   has_wrong (good ls) r e = absurd (let z : ◌≡◌ {A = ℕ} 0 1 = cc in omega arith)
   has_wrong (wrong s) r e = refl
 
-  pub has_past : (w : Accepts) (c : ℕ) → checked_of w ≡ Valid c → c ≤ i → has_entry i w ≡ false
+  pub has_past : (w : Accepts) (c : ℕ) → checked_of w ≡ Ok c → c ≤ i → has_entry i w ≡ false
   has_past (good ls) c e h = let n : length ls ≡ c = cc in le-ltb i (length ls) (omega arith)
   has_past (wrong r) c e h = refl
 
-  pub has_in : (w : Accepts) (c : ℕ) → checked_of w ≡ Valid c → i < c → has_entry i w ≡ true
+  pub has_in : (w : Accepts) (c : ℕ) → checked_of w ≡ Ok c → i < c → has_entry i w ≡ true
   has_in (good ls) c e h = let n : length ls ≡ c = cc in lt-ltb i (length ls) (omega arith)
   has_in (wrong r) c e h = absurd (let z : ◌≡◌ {A = ℕ} 0 1 = cc in omega arith)
 
 -- an entry of a file that is valid with c entries: it is one of 64, and lies within
-pub entry_room : (f : List ℕ) (i c : ℕ) → checked_of (list_of f) ≡ Valid c → i < c → (i < 64) × (offset f i + size f i ≤ length f)
+pub entry_room : (f : List ℕ) (i c : ℕ) → checked_of (list_of f) ≡ Ok c → i < c → (i < 64) × (offset f i + size f i ≤ length f)
 entry_room f i c e h = go (list_of f) refl e
   where
-    go : (w : Accepts) → list_of f ≡ w → checked_of w ≡ Valid c → (i < 64) × (offset f i + size f i ≤ length f)
+    go : (w : Accepts) → list_of f ≡ w → checked_of w ≡ Ok c → (i < 64) × (offset f i + size f i ≤ length f)
     go (good ls) q k =
         let n : length ls ≡ c = cc in
         (omega (arith, (list_count f ls q).1), entry_within f ls i q (omega arith))

@@ -1,5 +1,5 @@
 -- The numbers of Terms.antt say what Satisfies.antt defines: two terms are the same where their licences and their additions are.
-use Rattle.std.specs.Prelude.{ℕ, ◌+◌, ◌*◌, ◌/◌, ◌%◌, ◌<◌, ◌≤◌, ◌≡◌, Bool, true, false, cond, ◌&&◌, List, eqb}
+use Rattle.std.specs.Prelude.{ℕ, ◌+◌, ◌*◌, ◌/◌, ◌%◌, ◌<◌, ◌≤◌, ◌≡◌, Bool, true, false, cond, ◌&&◌, List, eqb, Option, Some, None}
 use native.Mathlib.Omega.{arith}
 use Rattle.std.proofs.Math.Path.{refl, sym}
 use Rattle.std.proofs.Common.{◌∙◌, eqb-true, eq-eqb, ne_eqb}
@@ -8,8 +8,6 @@ use Rattle.std.proofs.lemmas.Bool.{eqb-false}
 use Rattle.text.specs.Text.{part}
 use Rattle.text.specs.TextLaws.{same_refl}
 use Rattle.grammar.specs.declared.Range.{Range}
-use Rattle.grammar.specs.declared.Part.{Part}
-use Rattle.grammar.specs.declared.Part.TheVariants as P
 use Rattle.grammar.specs.declared.Licence.{Licence}
 use Rattle.grammar.specs.declared.Licence.TheVariants as L
 use Rattle.grammar.specs.declared.Addition.{Addition}
@@ -22,9 +20,9 @@ use Rattle.licensee.specs.Satisfies.{same_range, same_part, same_licence, same_a
 use Rattle.licensee.specs.Terms.{range_number, reference_term, licence_term, addition_term, terms_of, offered_terms, SmallRange, SmallPart, SmallLicence, SmallAddition, SmallLicensee, same_names, same_documents, same_term, same_terms, meets}
 
 -- a kind is one of four, and a licence's is not 0
-pub reference_kind : (d : Part) (n : Range) → (0 < (reference_term d n).kind) × ((reference_term d n).kind < 4)
-reference_kind P.Absent n = omega arith
-reference_kind (P.At d) n = omega arith
+pub reference_kind : (d : Option Range) (n : Range) → (0 < (reference_term d n).kind) × ((reference_term d n).kind < 4)
+reference_kind None n = omega arith
+reference_kind (Some d) n = omega arith
 
 licence_kind : (l : Licence) → (0 < (licence_term l).kind) × ((licence_term l).kind < 4)
 licence_kind (L.Listed k) = omega arith
@@ -84,9 +82,9 @@ module _ (f : List ℕ) where
   unfolding same_range
   range_refl r = same_refl (part r.start r.end f)
 
-  reference_refl : (d : Part) (n : Range) → (same_range f f n n && same_part f f d d) ≡ true
-  reference_refl P.Absent n = rw (range_refl n)
-  reference_refl (P.At d) n = rw (range_refl n, range_refl d)
+  reference_refl : (d : Option Range) (n : Range) → (same_range f f n n && same_part f f d d) ≡ true
+  reference_refl None n = rw (range_refl n)
+  reference_refl (Some d) n = rw (range_refl n, range_refl d)
 
   licence_refl : (l : Licence) → same_licence f f l l ≡ true
   licence_refl (L.Listed k) = eq-eqb k k refl
@@ -117,41 +115,41 @@ module _ (f s : List ℕ) where
   abbrev same_of : Term → Term → Bool
   same_of t u = cond (eqb t.kind u.kind) (same_term f s t.kind t.places u.places) false
 
-  references_are : (d : Part) (n : Range) (e : Part) (o : Range) → SmallPart d → SmallRange n → SmallPart e → SmallRange o
+  references_are : (d : Option Range) (n : Range) (e : Option Range) (o : Range) → SmallPart d → SmallRange n → SmallPart e → SmallRange o
       → same_of (reference_term d n) (reference_term e o) ≡ (same_range f s n o && same_part f s d e)
   unfolding same_term
-  references_are P.Absent n P.Absent o p u q v =
+  references_are None n None o p u q v =
       let i : range_number n + 0 * 4294967296 ≡ range_number n = omega arith in
       let j : range_number o + 0 * 4294967296 ≡ range_number o = omega arith in
       (rw (i, j) at (names_are n o 0 0 u v)) ∙ sym (and-true (same_range f s n o))
-  references_are P.Absent n (P.At e) o p u q v = sym (and-false (same_range f s n o))
-  references_are (P.At d) n P.Absent o p u q v = sym (and-false (same_range f s n o))
-  references_are (P.At d) n (P.At e) o p u q v =
+  references_are None n (Some e) o p u q v = sym (and-false (same_range f s n o))
+  references_are (Some d) n None o p u q v = sym (and-false (same_range f s n o))
+  references_are (Some d) n (Some e) o p u q v =
       rw (names_are n o (range_number d) (range_number e) u v, documents_are n d o e u p v q)
 
   licences_are : (l m : Licence) → SmallLicence l → SmallLicence m → same_of (licence_term l) (licence_term m) ≡ same_licence f s l m
   unfolding same_term
   licences_are (L.Listed j) (L.Listed k) u v = refl
-  licences_are (L.Listed j) (L.Reference P.Absent o) u v = refl
-  licences_are (L.Listed j) (L.Reference (P.At e) o) u v = refl
-  licences_are (L.Reference P.Absent n) (L.Listed k) u v = refl
-  licences_are (L.Reference (P.At d) n) (L.Listed k) u v = refl
+  licences_are (L.Listed j) (L.Reference None o) u v = refl
+  licences_are (L.Listed j) (L.Reference (Some e) o) u v = refl
+  licences_are (L.Reference None n) (L.Listed k) u v = refl
+  licences_are (L.Reference (Some d) n) (L.Listed k) u v = refl
   licences_are (L.Reference d n) (L.Reference e o) u v = references_are d n e o u.0 u.1 v.0 v.1
 
   additions_are : (a b : Addition) → SmallAddition a → SmallAddition b → same_of (addition_term a) (addition_term b) ≡ same_addition f s a b
   unfolding same_term
   additions_are A.Nothing A.Nothing u v = refl
   additions_are A.Nothing (A.Listed k) u v = refl
-  additions_are A.Nothing (A.Reference P.Absent o) u v = refl
-  additions_are A.Nothing (A.Reference (P.At e) o) u v = refl
+  additions_are A.Nothing (A.Reference None o) u v = refl
+  additions_are A.Nothing (A.Reference (Some e) o) u v = refl
   additions_are (A.Listed j) A.Nothing u v = refl
   additions_are (A.Listed j) (A.Listed k) u v = refl
-  additions_are (A.Listed j) (A.Reference P.Absent o) u v = refl
-  additions_are (A.Listed j) (A.Reference (P.At e) o) u v = refl
-  additions_are (A.Reference P.Absent n) A.Nothing u v = refl
-  additions_are (A.Reference (P.At d) n) A.Nothing u v = refl
-  additions_are (A.Reference P.Absent n) (A.Listed k) u v = refl
-  additions_are (A.Reference (P.At d) n) (A.Listed k) u v = refl
+  additions_are (A.Listed j) (A.Reference None o) u v = refl
+  additions_are (A.Listed j) (A.Reference (Some e) o) u v = refl
+  additions_are (A.Reference None n) A.Nothing u v = refl
+  additions_are (A.Reference (Some d) n) A.Nothing u v = refl
+  additions_are (A.Reference None n) (A.Listed k) u v = refl
+  additions_are (A.Reference (Some d) n) (A.Listed k) u v = refl
   additions_are (A.Reference d n) (A.Reference e o) u v = references_are d n e o u.0 u.1 v.0 v.1
 
   -- the law of both: two pairs of numbers are the same where licences and additions are

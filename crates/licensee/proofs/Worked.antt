@@ -1,6 +1,7 @@
 -- List files, valid and wrong in every way that document 01 names, and their entries: one table, computed, under one claim. Answers are in document
 -- 01's words: a listed name is its bytes, a reference its ranges in the file, a refusal its number and last column.
-use Rattle.std.specs.Prelude.{ℕ, ◌≡◌, refl, List, [], ◌∷◌, ◌++◌, map, replicate}
+use Rattle.grammar.specs.declared.Range.{Range}
+use Rattle.std.specs.Prelude.{ℕ, ◌≡◌, refl, List, [], ◌∷◌, ◌++◌, map, replicate, Option, Some, None}
 use Prim.Native.String.{String}
 use Rattle.text.specs.Text.{ascii, begins, same, within, part}
 use Rattle.text.specs.Walk.{over, reach, one}
@@ -23,8 +24,6 @@ use Rattle.refusal.specs.declared.Column.{Column}
 use Rattle.refusal.specs.declared.Column.TheVariants.{Number}
 use Rattle.lexer.specs.Lex.{run_end, ref_end, operator_of, ref_of, documented, imprecise_at, unknown_of, word_of, run_of, mark_of, scan_of, check_of}
 use Rattle.lexer.specs.Tokens.{walked, tokens_of}
-use Rattle.grammar.specs.declared.Part.{Part}
-use Rattle.grammar.specs.declared.Part.TheVariants as P
 use Rattle.grammar.specs.declared.Licence.{Licence}
 use Rattle.grammar.specs.declared.Licence.TheVariants as L
 use Rattle.grammar.specs.declared.Addition.{Addition}
@@ -53,7 +52,7 @@ use Rattle.licensee.specs.Packed.{word, directory, joint, file}
 data Name : Type 0 where
   none : Name
   listed_as : List ℕ → Name
-  ref : Part → ℕ → ℕ → Name
+  ref : Option Range → ℕ → ℕ → Name
 
 -- of a file, what it offers; of an entry of it, the bytes and their place
 data Question : Type 0 where
@@ -118,10 +117,10 @@ table =
     ∷ (body (replicate 197 0x20 ++ ascii "MIT"), valid (lic "MIT" ∷ []))
     -- an addition, references with their places in the file, white space as in any text
     ∷ (body (ascii "MIT WITH LLVM-exception"), valid ((listed_as (ascii "MIT"), listed_as (ascii "LLVM-exception")) ∷ []))
-    ∷ (body (ascii "LicenseRef-"), valid ((ref P.Absent 16 16, none) ∷ []))
+    ∷ (body (ascii "LicenseRef-"), valid ((ref None 16 16, none) ∷ []))
     ∷ (
       body (ascii "DocumentRef-d:LicenseRef-a WITH DocumentRef-:AdditionRef-b"),
-      valid ((ref (P.At (record { start = 17; end = 18 })) 30 31, ref (P.At (record { start = 49; end = 49 })) 62 63) ∷ []),
+      valid ((ref (Some (record { start = 17; end = 18 })) 30 31, ref (Some (record { start = 49; end = 49 })) 62 63) ∷ []),
     )
     ∷ (body (ascii "\tMIT" ++ (0xC2 ∷ 0xA0 ∷ [])), valid (lic "MIT" ∷ []))
     -- 255: no count, a count of 65, contents that are cut

@@ -2,116 +2,108 @@
 -- start) and length, 16 bits each, low byte first; then the bodies, in order, no gap, nothing after. Lengths are 1 to 200. A body is STRICT text
 -- of one licence, optionally WITH an addition; no `+`, no parenthesis; white space as in any text"; and 17, "(255; entries from 0 up, in each:
 -- offset, length, end, body; 254)".
-use Rattle.std.specs.Prelude.{ℕ, zero, suc, ◌+◌, ◌*◌, Bool, false, cond, ◌&&◌, List, [], ◌∷◌, eqb, leb, ltb, length, get_or}
+use Rattle.std.specs.Prelude.{ℕ, zero, suc, ◌+◌, ◌*◌, Bool, false, cond, ◌&&◌, List, [], ◌∷◌, eqb, leb, ltb, length, get_or, Option, Some, None, Result, Ok, Err, ⊤}
 use Rattle.text.specs.Text.{part}
 use Rattle.names.specs.Lookup.{deprecated_of}
 use Rattle.refusal.specs.declared.Span.{Span}
 use Rattle.refusal.specs.declared.Refusal.{Refusal}
 use Rattle.refusal.specs.declared.Refusal.TheVariants.{BadList}
 use Rattle.mode.specs.Modes.{strict}
-use Rattle.lexer.specs.declared.Doc.{Doc}
-use Rattle.lexer.specs.declared.Doc.TheVariants as D
 use Rattle.lexer.specs.declared.Token.{Token}
 use Rattle.lexer.specs.declared.Token.TheVariants as T
-use Rattle.lexer.specs.declared.Checked.{Checked}
-use Rattle.lexer.specs.declared.Checked.TheVariants.{Fine, Bad}
 use Rattle.lexer.specs.Lex.{check_of}
 use Rattle.lexer.specs.Tokens.{Tokens, done, refused, token, tokens_of}
 use Rattle.grammar.specs.declared.Range.{Range}
-use Rattle.grammar.specs.declared.Part.{Part}
-use Rattle.grammar.specs.declared.Part.TheVariants as P
+use Rattle.grammar.specs.declared.Licence.{Licence}
 use Rattle.grammar.specs.declared.Licence.TheVariants as L
+use Rattle.grammar.specs.declared.Addition.{Addition}
 use Rattle.grammar.specs.declared.Addition.TheVariants as A
 use Rattle.licensee.specs.declared.Licensee.{Licensee}
-use Rattle.licensee.specs.declared.Licensed.{Licensed}
-use Rattle.licensee.specs.declared.Licensed.TheVariants as C
-use Rattle.licensee.specs.declared.Added.{Added}
-use Rattle.licensee.specs.declared.Added.TheVariants as X
-use Rattle.licensee.specs.declared.Body.{Body}
-use Rattle.licensee.specs.declared.Body.TheVariants as B
-use Rattle.licensee.specs.declared.Listed.{Listed}
-use Rattle.licensee.specs.declared.Listed.TheVariants.{Valid, Refused}
 
 -- a range of a body, which starts at a, in the file
 abbrev pub range_from : ℕ → Span → Range
 range_from a sp = record { start = a + sp.start; end = a + sp.end }
 
-abbrev pub part_from : ℕ → Doc → Part
-part_from a D.Absent = P.Absent
-part_from a (D.Part sp) = P.At (range_from a sp)
+abbrev pub part_from : ℕ → Option Span → Option Range
+part_from a None = None
+part_from a (Some sp) = Some (range_from a sp)
 
 -- a listed name: in STRICT none that is deprecated
-unfoldable pub name_in : ℕ → Licensed
-name_in k = cond (deprecated_of k) C.Not (C.Is (L.Listed k))
+unfoldable pub name_in : ℕ → Option Licence
+name_in k = cond (deprecated_of k) None (Some (L.Listed k))
 
 -- "one licence"
-abbrev pub licence_in : ℕ → Token → Licensed
-licence_in a T.And = C.Not
-licence_in a T.Or = C.Not
-licence_in a T.With = C.Not
-licence_in a T.Plus = C.Not
-licence_in a T.Open = C.Not
-licence_in a T.Close = C.Not
+abbrev pub licence_in : ℕ → Token → Option Licence
+licence_in a T.And = None
+licence_in a T.Or = None
+licence_in a T.With = None
+licence_in a T.Plus = None
+licence_in a T.Open = None
+licence_in a T.Close = None
 licence_in a (T.Licence k) = name_in k
-licence_in a (T.Exception k) = C.Not
-licence_in a (T.LicenseRef d n) = C.Is (L.Reference (part_from a d) (range_from a n))
-licence_in a (T.AdditionRef d n) = C.Not
-licence_in a (T.Unknown n) = C.Not
+licence_in a (T.Exception k) = None
+licence_in a (T.LicenseRef d n) = Some (L.Reference (part_from a d) (range_from a n))
+licence_in a (T.AdditionRef d n) = None
+licence_in a (T.Unknown n) = None
 
 -- "an addition"
-abbrev pub addition_in : ℕ → Token → Added
-addition_in a T.And = X.Not
-addition_in a T.Or = X.Not
-addition_in a T.With = X.Not
-addition_in a T.Plus = X.Not
-addition_in a T.Open = X.Not
-addition_in a T.Close = X.Not
-addition_in a (T.Licence k) = X.Not
-addition_in a (T.Exception k) = X.Is (A.Listed k)
-addition_in a (T.LicenseRef d n) = X.Not
-addition_in a (T.AdditionRef d n) = X.Is (A.Reference (part_from a d) (range_from a n))
-addition_in a (T.Unknown n) = X.Not
+abbrev pub addition_in : ℕ → Token → Option Addition
+addition_in a T.And = None
+addition_in a T.Or = None
+addition_in a T.With = None
+addition_in a T.Plus = None
+addition_in a T.Open = None
+addition_in a T.Close = None
+addition_in a (T.Licence k) = None
+addition_in a (T.Exception k) = Some (A.Listed k)
+addition_in a (T.LicenseRef d n) = None
+addition_in a (T.AdditionRef d n) = Some (A.Reference (part_from a d) (range_from a n))
+addition_in a (T.Unknown n) = None
 
 -- nothing follows
-abbrev pub alone : Added → Tokens → Added
+abbrev pub alone : Option Addition → Tokens → Option Addition
 alone x done = x
-alone x (refused r) = X.Not
-alone x (token t sp ts) = X.Not
+alone x (refused r) = None
+alone x (token t sp ts) = None
 
 -- behind WITH: an addition, and nothing after it
-abbrev pub behind_with : ℕ → Tokens → Added
-behind_with a done = X.Not
-behind_with a (refused r) = X.Not
+abbrev pub behind_with : ℕ → Tokens → Option Addition
+behind_with a done = None
+behind_with a (refused r) = None
 behind_with a (token t sp ts) = alone (addition_in a t) ts
 
 -- what a token behind the licence leads to, if it is WITH
-abbrev pub if_with : Token → Added → Added
-if_with T.And x = X.Not
-if_with T.Or x = X.Not
+abbrev pub if_with : Token → Option Addition → Option Addition
+if_with T.And x = None
+if_with T.Or x = None
 if_with T.With x = x
-if_with T.Plus x = X.Not
-if_with T.Open x = X.Not
-if_with T.Close x = X.Not
-if_with (T.Licence k) x = X.Not
-if_with (T.Exception k) x = X.Not
-if_with (T.LicenseRef d n) x = X.Not
-if_with (T.AdditionRef d n) x = X.Not
-if_with (T.Unknown n) x = X.Not
+if_with T.Plus x = None
+if_with T.Open x = None
+if_with T.Close x = None
+if_with (T.Licence k) x = None
+if_with (T.Exception k) x = None
+if_with (T.LicenseRef d n) x = None
+if_with (T.AdditionRef d n) x = None
+if_with (T.Unknown n) x = None
 
 -- behind the licence: nothing, or WITH and an addition
-abbrev pub behind_licence : ℕ → Tokens → Added
-behind_licence a done = X.Is A.Nothing
-behind_licence a (refused r) = X.Not
+abbrev pub behind_licence : ℕ → Tokens → Option Addition
+behind_licence a done = Some A.Nothing
+behind_licence a (refused r) = None
 behind_licence a (token t sp ts) = if_with t (behind_with a ts)
+
+-- what an entry's body is read as
+abbrev pub Body : Type 0
+Body = Result Licensee Refusal
 
 -- 17, with the entry
 abbrev pub wrong_entry : ℕ → Body
-wrong_entry i = B.Refused (BadList i)
+wrong_entry i = Err (BadList i)
 
-abbrev pub joined : ℕ → Licensed → Added → Body
-joined i C.Not x = wrong_entry i
-joined i (C.Is l) X.Not = wrong_entry i
-joined i (C.Is l) (X.Is x) = B.Is (record { licence = l; addition = x })
+abbrev pub joined : ℕ → Option Licence → Option Addition → Body
+joined i None x = wrong_entry i
+joined i (Some l) None = wrong_entry i
+joined i (Some l) (Some x) = Ok (record { licence = l; addition = x })
 
 abbrev pub offered : ℕ → ℕ → Tokens → Body
 offered i a done = wrong_entry i
@@ -119,9 +111,9 @@ offered i a (refused r) = wrong_entry i
 offered i a (token t sp ts) = joined i (licence_in a t) (behind_licence a ts)
 
 -- "STRICT text": its refusals 2 and 1 are refusals of the entry
-abbrev pub if_text : ℕ → Checked → Body → Body
-if_text i Fine x = x
-if_text i (Bad r) x = wrong_entry i
+abbrev pub if_text : ℕ → Result ⊤ Refusal → Body → Body
+if_text i (Ok tt) x = x
+if_text i (Err r) x = wrong_entry i
 
 -- the body b of entry i, which starts at a in the file
 unfoldable pub body_of : ℕ → ℕ → List ℕ → Body
@@ -159,8 +151,8 @@ before l (good ls) = good (l ∷ ls)
 before l (wrong r) = wrong r
 
 abbrev pub entry_then : Body → Accepts → Accepts
-entry_then (B.Is l) x = before l x
-entry_then (B.Refused r) x = wrong r
+entry_then (Ok l) x = before l x
+entry_then (Err r) x = wrong r
 
 -- n entries from entry i on, of which the first body is due at a: "the bodies, in order, no gap, nothing after"; "254"
 unfoldable pub entries_from : List ℕ → ℕ → ℕ → ℕ → Accepts
@@ -175,9 +167,9 @@ unfoldable pub list_of : List ℕ → Accepts
 list_of f = cond (contents f) (entries_from f (count f) 0 (1 + 4 * count f)) (wrong (BadList 255))
 
 -- what `check` answers: the count, or 17
-abbrev pub checked_of : Accepts → Listed
-checked_of (good ls) = Valid (length ls)
-checked_of (wrong r) = Refused r
+abbrev pub checked_of : Accepts → Result ℕ Refusal
+checked_of (good ls) = Ok (length ls)
+checked_of (wrong r) = Err r
 
 -- is there an entry i
 abbrev pub has_entry : ℕ → Accepts → Bool

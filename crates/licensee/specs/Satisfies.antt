@@ -1,11 +1,9 @@
 -- What a licensee satisfies. Document 01: "A licensee satisfies a leaf when licence and addition are equal (name, or reference bytes with document
 -- part; absent equals absent). The leaf's plus flag is not looked at"; and "equal no earlier found one". A licensee's ranges stand in the list
 -- file f, a leaf's in its text s.
-use Rattle.std.specs.Prelude.{ℕ, Bool, true, false, ◌&&◌, List, eqb}
+use Rattle.std.specs.Prelude.{ℕ, Bool, true, false, ◌&&◌, List, eqb, Option, Some, None}
 use Rattle.text.specs.Text.{same, part}
 use Rattle.grammar.specs.declared.Range.{Range}
-use Rattle.grammar.specs.declared.Part.{Part}
-use Rattle.grammar.specs.declared.Part.TheVariants as P
 use Rattle.grammar.specs.declared.Licence.{Licence}
 use Rattle.grammar.specs.declared.Licence.TheVariants as L
 use Rattle.grammar.specs.declared.Addition.{Addition}
@@ -19,11 +17,11 @@ module _ (f s : List ℕ) where
   same_range r q = same (part r.start r.end f) (part q.start q.end s)
 
   -- "absent equals absent", and is not empty
-  abbrev pub same_part : Part → Part → Bool
-  same_part P.Absent P.Absent = true
-  same_part P.Absent (P.At q) = false
-  same_part (P.At r) P.Absent = false
-  same_part (P.At r) (P.At q) = same_range r q
+  abbrev pub same_part : Option Range → Option Range → Bool
+  same_part None None = true
+  same_part None (Some q) = false
+  same_part (Some r) None = false
+  same_part (Some r) (Some q) = same_range r q
 
   -- "name, or reference bytes with document part"
   abbrev pub same_licence : Licence → Licence → Bool

@@ -1,25 +1,17 @@
 -- Licence and addition as numbers, so that arrays of them can be lent: a kind for each, and its index or its places, 16 bits each. The code's own
 -- machinery, nothing to believe: TermsLaws.antt ties it to Satisfies.antt.
-use Rattle.std.specs.Prelude.{ℕ, ◌+◌, ◌-◌, ◌*◌, ◌/◌, ◌%◌, ◌<◌, Bool, true, false, cond, ◌&&◌, List, [], ◌∷◌, ◌++◌, eqb, length, replicate}
+use Rattle.std.specs.Prelude.{ℕ, ◌+◌, ◌-◌, ◌*◌, ◌/◌, ◌%◌, ◌<◌, Bool, true, false, cond, ◌&&◌, List, [], ◌∷◌, ◌++◌, eqb, length, map, replicate, Option, Some, None, Result, Ok, Err}
 use Rattle.text.specs.Text.{same, part}
 use Rattle.refusal.specs.declared.Span.{Span}
-use Rattle.lexer.specs.declared.Doc.{Doc}
-use Rattle.lexer.specs.declared.Doc.TheVariants as D
+use Rattle.refusal.specs.declared.Refusal.{Refusal}
 use Rattle.lexer.specs.declared.Token.{Token}
 use Rattle.lexer.specs.declared.Token.TheVariants as T
-use Rattle.lexer.specs.declared.Step.{Step}
-use Rattle.lexer.specs.declared.Step.TheVariants as S
 use Rattle.grammar.specs.declared.Range.{Range}
-use Rattle.grammar.specs.declared.Part.{Part}
-use Rattle.grammar.specs.declared.Part.TheVariants as P
 use Rattle.grammar.specs.declared.Licence.{Licence}
 use Rattle.grammar.specs.declared.Licence.TheVariants as L
 use Rattle.grammar.specs.declared.Addition.{Addition}
 use Rattle.grammar.specs.declared.Addition.TheVariants as A
-use Rattle.grammar.specs.declared.Outcome.TheVariants as O
 use Rattle.licensee.specs.declared.Licensee.{Licensee}
-use Rattle.licensee.specs.declared.Added.{Added}
-use Rattle.licensee.specs.declared.Added.TheVariants as X
 use Rattle.licensee.specs.declared.Term.{Term}
 use Rattle.licensee.specs.declared.Terms.{Terms}
 use Rattle.licensee.specs.declared.Accepted.{Accepted}
@@ -32,9 +24,9 @@ unfoldable pub range_number : Range → ℕ
 range_number r = r.start + r.end * 65536
 
 -- a reference: kind 2 with no document part, 3 with one
-abbrev pub reference_term : Part → Range → Term
-reference_term P.Absent n = term 2 (range_number n)
-reference_term (P.At d) n = term 3 (range_number n + range_number d * 4294967296)
+abbrev pub reference_term : Option Range → Range → Term
+reference_term None n = term 2 (range_number n)
+reference_term (Some d) n = term 3 (range_number n + range_number d * 4294967296)
 
 -- a listed name: kind 1
 abbrev pub licence_term : Licence → Term
@@ -62,9 +54,9 @@ offered_terms l = terms_of l.licence l.addition
 abbrev pub SmallRange : Range → Type 0
 SmallRange r = (r.start < 65536) × (r.end < 65536)
 
-abbrev pub SmallPart : Part → Type 0
-SmallPart P.Absent = Unit {0}
-SmallPart (P.At r) = SmallRange r
+abbrev pub SmallPart : Option Range → Type 0
+SmallPart None = Unit {0}
+SmallPart (Some r) = SmallRange r
 
 abbrev pub SmallLicence : Licence → Type 0
 SmallLicence (L.Listed k) = k < 65536
@@ -100,37 +92,16 @@ module _ (f s : List ℕ) where
 unfoldable pub meets : List ℕ → List ℕ → Terms → Terms → Bool
 meets f s a b = same_terms f s a b
 
--- the numbers of licensees, and zeros up to 64
-abbrev pub padded : List ℕ → List ℕ
-padded l = l ++ replicate (64 - length l) 0
+-- the numbers of licensees, and blank ones up to 64
+abbrev pub blank : Terms
+blank = record { kinds = 0; licence = 0; addition = 0 }
 
-abbrev pub kinds_of : List Licensee → List ℕ
-kinds_of [] = []
-kinds_of (l ∷ ls) = (offered_terms l).kinds ∷ kinds_of ls
+abbrev pub padded : List Terms → List Terms
+padded l = l ++ replicate (64 - length l) blank
 
-abbrev pub licences_of : List Licensee → List ℕ
-licences_of [] = []
-licences_of (l ∷ ls) = (offered_terms l).licence ∷ licences_of ls
-
-abbrev pub additions_of : List Licensee → List ℕ
-additions_of [] = []
-additions_of (l ∷ ls) = (offered_terms l).addition ∷ additions_of ls
-
-abbrev pub accepted_of : Accepts → Accepted
-accepted_of (good ls) = record {
-  outcome = O.Read;
-  count = length ls;
-  kinds = padded (kinds_of ls);
-  licences = padded (licences_of ls);
-  additions = padded (additions_of ls);
-}
-accepted_of (wrong r) = record {
-  outcome = O.Refused r;
-  count = 0;
-  kinds = replicate 64 0;
-  licences = replicate 64 0;
-  additions = replicate 64 0;
-}
+abbrev pub accepted_of : Accepts → Result Accepted Refusal
+accepted_of (good ls) = Ok (record { count = length ls; terms = padded (map offered_terms ls) })
+accepted_of (wrong r) = Err r
 
 -- the places of all licensees fit 16 bits
 abbrev pub SmallAll : List Licensee → Type 0
@@ -145,9 +116,9 @@ SmallList (wrong r) = Unit {0}
 abbrev pub FitsRange : ℕ → Span → Type 0
 FitsRange a sp = (a + sp.start < 65536) × (a + sp.end < 65536)
 
-abbrev pub FitsPart : ℕ → Doc → Type 0
-FitsPart a D.Absent = Unit {0}
-FitsPart a (D.Part sp) = FitsRange a sp
+abbrev pub FitsPart : ℕ → Option Span → Type 0
+FitsPart a None = Unit {0}
+FitsPart a (Some sp) = FitsRange a sp
 
 abbrev pub FitsToken : ℕ → Token → Type 0
 FitsToken a T.And = Unit {0}
@@ -161,9 +132,3 @@ FitsToken a (T.Exception k) = k < 65536
 FitsToken a (T.LicenseRef d n) = FitsPart a d × FitsRange a n
 FitsToken a (T.AdditionRef d n) = FitsPart a d × FitsRange a n
 FitsToken a (T.Unknown n) = Unit {0}
-
--- behind the licence, where no token is
-abbrev pub end_of : Step → Added
-end_of (S.Got t sp nx) = X.Not
-end_of S.Done = X.Is A.Nothing
-end_of (S.Refused r) = X.Not

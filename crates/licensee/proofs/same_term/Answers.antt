@@ -1,15 +1,8 @@
 -- A kind is settled by its test; a reference by its name, and then by its document part.
-use mathlib.Core.Path.{◌≡◌, refl}
-use mathlib.Core.Bool.{Bool, true, false, cond, ◌&&◌}
-use mathlib.Core.List.{List}
-use Prim.Native.Nat.{ℕ}
-use lib.Dec.{eqb}
-use borrow.Author.Rules.{rules}
-use borrow.Author.Tests.{eq-eqb, ne_eqb, not-true, not-false}
+use Rattle.std.proofs.Common.{◌≡◌, refl, Bool, true, false, cond, ◌&&◌, List, ℕ, eqb, eq-eqb, ne_eqb}
 use Rattle.text.specs.Tests.{tests}
 use Rattle.licensee.specs.Terms.{same_term, same_names, same_documents}
-use Rattle.licensee.proofs.same_term.Statement.{statement}
-use Rattle.licensee.proofs.same_term.Tie as tie
+use Rattle.licensee.proofs.same_term.Goals as goal
 
 -- what a reference's test comes to
 module _ (f s : List ℕ) (k x y : ℕ) (some : k ≡ 0 → ⊥) (other : k ≡ 1 → ⊥) where
@@ -23,8 +16,8 @@ module _ (f s : List ℕ) (k x y : ℕ) (some : k ≡ 0 → ⊥) (other : k ≡ 
       go false true = refl
       go false false = refl
 
-returns-3 : tie.Need-returns-then-not-same_names
-returns-3 c =
+pub returns-then-not-same_names : goal.returns-then-not-same_names
+returns-then-not-same_names c =
     let n = c.same_names in
     rw (
       reference _ _ _ _ _ c.if-kind-eq0.false c.if-kind-eq1.false,
@@ -32,8 +25,8 @@ returns-3 c =
       c.if-not-same_names.true,
     )
 
-returns-4 : tie.Need-returns-then-kind-eq2
-returns-4 c =
+pub returns-then-kind-eq2 : goal.returns-then-kind-eq2
+returns-then-kind-eq2 c =
     let n = c.same_names in
     rw (
       reference _ _ _ _ _ c.if-kind-eq0.false c.if-kind-eq1.false,
@@ -42,8 +35,8 @@ returns-4 c =
       eq-eqb _ _ c.if-kind-eq2.true,
     )
 
-returns-5 : tie.Need-returns
-returns-5 c =
+pub returns : goal.returns
+returns c =
     let n = c.same_names in
     rw (
       reference _ _ _ _ _ c.if-kind-eq0.false c.if-kind-eq1.false,
@@ -53,15 +46,10 @@ returns-5 c =
     )
     c.same_documents.ensures
 
-pub same_term_spec : {M : Type 1} → statement M
+pub returns-then-kind-eq0 : goal.returns-then-kind-eq0
 unfolding same_term
-same_term_spec =
-    tie.close
-    (tie.spec
-    (λ c. search tests)
-    (λ c. search tests)
-    (λ c κs. search rules)
-    returns-3
-    returns-4
-    (λ c κs. search rules)
-    returns-5)
+returns-then-kind-eq0 c = search tests
+
+pub returns-then-kind-eq1 : goal.returns-then-kind-eq1
+unfolding same_term
+returns-then-kind-eq1 c = search tests
