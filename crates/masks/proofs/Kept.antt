@@ -1,5 +1,5 @@
 -- The third demand is kept by the definitions, where the empty set fails and all found together satisfy if any set of them does.
-use Rattle.std.specs.Prelude.{ℕ, zero, suc, ◌+◌, ◌-◌, ◌^◌, ◌≤◌, ◌<◌, min, ◌≡◌, refl, Bool, true, false, eqb, ltb}
+use Rattle.std.specs.Prelude.{ℕ, zero, suc, ◌+◌, ◌-◌, ◌^◌, ◌≤◌, ◌<◌, min, ◌≡◌, refl, Bool, true, false, eqb, ltb, Result, Ok, Err}
 use Rattle.std.proofs.Common.{sym, ap, subst, ◌∙◌, true≢false, ⊎_elim, arith, pow_pos, ltb-true}
 use Rattle.std.proofs.Math.Path.{fun_ext}
 use mathlib.Core.List.{List, [], ◌∷◌, Memᴰ}
@@ -7,11 +7,12 @@ use Rattle.std.proofs.Math.Decide.{dec_lt}
 use Rattle.text.specs.First.{first}
 use Rattle.text.specs.FirstLaws.{Stop, first_stop, first_unique}
 use Rattle.text.specs.Tests.{by_cond}
+use Rattle.refusal.specs.declared.Refusal.{Refusal}
 use Rattle.refusal.specs.declared.Refusal.TheVariants.{RequirementsUnmet}
 use Rattle.masks.specs.declared.Choice.{Choice}
 use Rattle.masks.specs.declared.Choice.TheVariants as C
 use Rattle.masks.specs.declared.Listing.{Listing}
-use Rattle.masks.specs.declared.Listing.TheVariants.{Found, Paused, Finished, Refused}
+use Rattle.masks.specs.declared.Listing.TheVariants.{Found, Paused, Finished}
 use Rattle.masks.specs.Masks.{minimal, settled, listed, chosen}
 use Rattle.masks.proofs.MasksLaws.{settled_mask, settled_paused, chosen_unmet, chosen_some}
 use Rattle.masks.specs.Promise.{Ascending, Minimal, Moves, Promise, Kept}
@@ -27,11 +28,11 @@ from_on [] from y a h = absurd (mathlib.Core.List.Memᴰ.not-nil h)
 from_on (x ∷ l) from y a h =
     ⊎_elim (λ q. omega arith) (λ t. omega (arith, from_on l (x + 1) y a.1 t)) (mathlib.Core.List.Memᴰ.cases_cons h)
 
-says_moves : (p : ℕ → Bool) (k c b : ℕ) (a : Listing) → Says p (2 ^ k) c b a → Moves k c b a
-says_moves p k c b (Found m n) s = (omega arith, s.3)
-says_moves p k c b (Paused n) s = (s.0, s.2)
-says_moves p k c b (Finished n) s = (s.0, s.1)
-says_moves p k c b (Refused r) s = absurd s
+says_moves : (p : ℕ → Bool) (k c b : ℕ) (a : Result Listing Refusal) → Says p (2 ^ k) c b a → Moves k c b a
+says_moves p k c b (Ok (Found m n)) s = (omega arith, s.3)
+says_moves p k c b (Ok (Paused n)) s = (s.0, s.2)
+says_moves p k c b (Ok (Finished n)) s = (s.0, s.1)
+says_moves p k c b (Err r) s = absurd s
 
 module _ (sat : ℕ → Bool) (k : ℕ) where
   -- the choice, where m is the least set that satisfies
@@ -44,15 +45,15 @@ module _ (sat : ℕ → Bool) (k : ℕ) where
       here = λ h. let q : min m (1 + b) ≡ m = omega arith in rw q met;
     }))
 
-    chosen_mask : m ≤ b → chosen sat k b ≡ C.Mask m
+    chosen_mask : m ≤ b → chosen sat k b ≡ Ok (C.Mask m)
     chosen_mask h =
         let q : m ≡ first sat b 1 = omega (arith, first_least) in
-        chosen_some sat k b all (λ z. omega arith) ∙ settled_mask sat b m q (omega arith)
+        chosen_some sat k b all (λ z. omega arith) ∙ ap Ok (settled_mask sat b m q (omega arith))
 
-    chosen_waits : 1 ≤ b → b < m → chosen sat k b ≡ C.Paused (1 + b)
+    chosen_waits : 1 ≤ b → b < m → chosen sat k b ≡ Ok (C.Paused (1 + b))
     chosen_waits l h =
         let q : 1 + b ≡ first sat b 1 = omega (arith, first_least) in
-        chosen_some sat k b all (λ z. omega arith) ∙ settled_paused sat b (1 + b) q (omega arith)
+        chosen_some sat k b all (λ z. omega arith) ∙ ap Ok (settled_paused sat b (1 + b) q (omega arith))
 
   module _ (empty-not : sat 0 ≡ false) (tops : (m : ℕ) → m < 2 ^ k → sat m ≡ true → sat (2 ^ k - 1) ≡ true) (ms : List ℕ)
       (part : Part (minimal sat k) (2 ^ k) 1 ms) where
@@ -98,7 +99,7 @@ module _ (sat : ℕ → Bool) (k : ℕ) where
         go [] e = e
         go (x ∷ l) e = let t = lead e in absurd (true≢false (sym t.1.satisfies ∙ f x t.0))
 
-    none_chosen : ms ≡ [] → (b : ℕ) → chosen sat k b ≡ C.Refused RequirementsUnmet
+    none_chosen : ms ≡ [] → (b : ℕ) → chosen sat k b ≡ Err RequirementsUnmet
     none_chosen e b = chosen_unmet sat k b (none_met e (2 ^ k - 1) (omega (arith, pow_pos k)))
 
     promised : Promise (listed sat k) (chosen sat k) sat k ms
@@ -125,10 +126,10 @@ kept sat k z tops β some =
 
 -- a mask that is chosen satisfies, and no lesser one does
 module _ (sat : ℕ → Bool) (empty-not : sat 0 ≡ false) where
-  abbrev Least : Choice → Type 0
-  Least (C.Mask x) = (sat x ≡ true) × ((y : ℕ) → sat y ≡ true → x ≤ y)
-  Least (C.Paused p) = Unit {0}
-  Least (C.Refused r) = Unit {0}
+  abbrev Least : Result Choice Refusal → Type 0
+  Least (Ok (C.Mask x)) = (sat x ≡ true) × ((y : ℕ) → sat y ≡ true → x ≤ y)
+  Least (Ok (C.Paused p)) = Unit {0}
+  Least (Err r) = Unit {0}
 
   -- the first from 1 on that satisfies is the least, since 0 does not
   least_of : (n x y : ℕ) → Stop sat n 1 x → sat y ≡ true → x ≤ y
@@ -146,11 +147,11 @@ module _ (sat : ℕ → Bool) (empty-not : sat 0 ≡ false) where
       (λ a.
       by_cond Least (eqb b 0) _ _ (λ z. tt)
       (λ z.
-      by_cond Least (ltb (first sat b 1) (1 + b)) _ _
+      by_cond (λ a. Least (Ok a)) (ltb (first sat b 1) (1 + b)) _ _
       (λ l. ((first_stop sat b 1).here (ltb-true _ _ l), λ y q. least_of b (first sat b 1) y (first_stop sat b 1) q)) (λ l. tt)))
       (λ a. tt)
 
-  pub chosen_least : (k b x : ℕ) → chosen sat k b ≡ C.Mask x → (sat x ≡ true) × ((y : ℕ) → sat y ≡ true → x ≤ y)
+  pub chosen_least : (k b x : ℕ) → chosen sat k b ≡ Ok (C.Mask x) → (sat x ≡ true) × ((y : ℕ) → sat y ≡ true → x ≤ y)
   chosen_least k b x e = subst Least e (least_chosen k b)
 
 -- what has the same answers says the same
@@ -161,7 +162,7 @@ listed_same p q e k c b = ap (λ (s : ℕ → Bool). listed s k c b) (fun_ext e)
 pub chosen_same : (p q : ℕ → Bool) → ((m : ℕ) → p m ≡ q m) → (k b : ℕ) → chosen p k b ≡ chosen q k b
 chosen_same p q e k b = ap (λ (s : ℕ → Bool). chosen s k b) (fun_ext e)
 
-pub kept_same : (call call' : ℕ → ℕ → Listing) (pick pick' : ℕ → Choice) → ((c b : ℕ) → call c b ≡ call' c b) → ((b : ℕ) → pick b ≡ pick' b)
+pub kept_same : (call call' : ℕ → ℕ → Result Listing Refusal) (pick pick' : ℕ → Result Choice Refusal) → ((c b : ℕ) → call c b ≡ call' c b) → ((b : ℕ) → pick b ≡ pick' b)
     → (sat : ℕ → Bool) (k : ℕ) (β : ℕ → ℕ) → Kept call pick sat k β → Kept call' pick' sat k β
 kept_same call call' pick pick' e f sat k β w =
     let c : call ≡ call' = fun_ext (λ c. fun_ext (e c)) in

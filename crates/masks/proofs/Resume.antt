@@ -1,5 +1,5 @@
 -- What one call of the listing says, and what calls say that go on from it until they are finished: every mask that passes, in order.
-use Rattle.std.specs.Prelude.{ℕ, zero, suc, ◌+◌, ◌-◌, ◌^◌, ◌≤◌, ◌<◌, min, ◌≡◌, refl, Bool, false, ltb}
+use Rattle.std.specs.Prelude.{ℕ, zero, suc, ◌+◌, ◌-◌, ◌^◌, ◌≤◌, ◌<◌, min, ◌≡◌, refl, Bool, false, ltb, Result, Ok, Err}
 use Rattle.std.proofs.Common.{sym, ap, ◌∙◌, true≢false, ⊎_elim, eq-or-lt_of_le}
 use Rattle.std.proofs.Math.Bool.{true}
 use mathlib.Core.List.Memᴰ
@@ -9,8 +9,9 @@ use native.Mathlib.Omega.{arith}
 use borrow.Author.Tests.{ltb-true, ltb-false, le-leb, ne_eqb}
 use Rattle.text.specs.FirstLaws.{Stop, first_stop}
 use Rattle.text.specs.Tests.{by_cond}
+use Rattle.refusal.specs.declared.Refusal.{Refusal}
 use Rattle.masks.specs.declared.Listing.{Listing}
-use Rattle.masks.specs.declared.Listing.TheVariants.{Found, Paused, Finished, Refused}
+use Rattle.masks.specs.declared.Listing.TheVariants.{Found, Paused, Finished}
 use Rattle.masks.specs.Masks.{minimal, stopped, searched, listed}
 use Rattle.masks.proofs.MasksLaws.{examined_end}
 use Rattle.masks.specs.Promise.{Ascending, Run, over, more, wait, later}
@@ -21,21 +22,21 @@ module _ (p : ℕ → Bool) where
   Before a b = (j : ℕ) → a ≤ j → j < b → p j ≡ false
 
   -- what the answer to a call at cursor c with budget b says
-  abbrev pub Says : ℕ → ℕ → ℕ → Listing → Type 0
-  Says end c b (Found m n) = (n ≡ m + 1) × (c ≤ m) × (m < end) × (n - c ≤ b) × (p m ≡ true) × Before c m
-  Says end c b (Paused n) = (c < n) × (n < end) × (n - c ≡ b) × Before c n
-  Says end c b (Finished n) = (n ≡ end) × (n - c ≤ b) × Before c n
-  Says end c b (Refused r) = ⊥
+  abbrev pub Says : ℕ → ℕ → ℕ → Result Listing Refusal → Type 0
+  Says end c b (Ok (Found m n)) = (n ≡ m + 1) × (c ≤ m) × (m < end) × (n - c ≤ b) × (p m ≡ true) × Before c m
+  Says end c b (Ok (Paused n)) = (c < n) × (n < end) × (n - c ≡ b) × Before c n
+  Says end c b (Ok (Finished n)) = (n ≡ end) × (n - c ≤ b) × Before c n
+  Says end c b (Err r) = ⊥
 
   stopped_says : (end c b n e x : ℕ) → c ≤ end → n ≡ min b (end - c) → 1 ≤ b → c + e ≡ min (x + 1) (c + n) → Stop p n c x
-      → Says end c b (stopped end c n e x)
+      → Says end c b (Ok (stopped end c n e x))
   unfolding stopped Before
   stopped_says end c b n e x h q o w s =
-      by_cond (Says end c b) (ltb x (c + n)) _ _
+      by_cond (λ a. Says end c b (Ok a)) (ltb x (c + n)) _ _
       (λ t. let l : x < c + n = ltb-true _ _ t in (omega arith, s.from, omega arith, omega arith, s.here l, s.before))
       (λ f.
       let l : c + n ≤ x = ltb-false _ _ f in
-      by_cond (Says end c b) (ltb (c + e) end) _ _
+      by_cond (λ a. Says end c b (Ok a)) (ltb (c + e) end) _ _
       (λ t. let g : c + e < end = ltb-true _ _ t in (omega arith, g, omega arith, λ j u v. s.before j u (omega arith)))
       (λ t. let g : end ≤ c + e = ltb-false _ _ t in (omega arith, omega arith, λ j u v. s.before j u (omega arith))))
 
@@ -76,19 +77,19 @@ module _ (p : ℕ → Bool) where
       go m a h e (no b) = w.whole m (omega arith) h e
 
   -- calls that say so can be made one after the other until they are finished, whatever the budgets
-  module _ (call : ℕ → ℕ → Listing) (end : ℕ) (says : (c b : ℕ) → 1 ≤ c → c ≤ end → 1 ≤ b → Says end c b (call c b)) where
+  module _ (call : ℕ → ℕ → Result Listing Refusal) (end : ℕ) (says : (c b : ℕ) → 1 ≤ c → c ≤ end → 1 ≤ b → Says end c b (call c b)) where
     Runs : (ℕ → ℕ) → ℕ → Type 0
     Runs β c = (ms : List ℕ) × Run call β c ms × Part end c ms
 
-    go_on : (β : ℕ → ℕ) (c : ℕ) → c ≤ end → ((n : ℕ) → c < n → n ≤ end → Runs (later β) n) → (a : Listing) → call c (β 0) ≡ a
+    go_on : (β : ℕ → ℕ) (c : ℕ) → c ≤ end → ((n : ℕ) → c < n → n ≤ end → Runs (later β) n) → (a : Result Listing Refusal) → call c (β 0) ≡ a
         → Says end c (β 0) a → Runs β c
     unfolding Runs
-    go_on β c l next (Found m n) e s =
+    go_on β c l next (Ok (Found m n)) e s =
         let r = next n (omega arith) (omega arith) in
         (m ∷ r.0, more e r.1, part_skip s.1 s.5 (part_here s.0 s.2 s.4 r.2))
-    go_on β c l next (Paused n) e s = let r = next n (omega arith) (omega arith) in (r.0, wait e r.1, part_skip (omega arith) s.3 r.2)
-    go_on β c l next (Finished n) e s = ([], over e, part_none (rw s.0 at s.2))
-    go_on β c l next (Refused r) e s = absurd s
+    go_on β c l next (Ok (Paused n)) e s = let r = next n (omega arith) (omega arith) in (r.0, wait e r.1, part_skip (omega arith) s.3 r.2)
+    go_on β c l next (Ok (Finished n)) e s = ([], over e, part_none (rw s.0 at s.2))
+    go_on β c l next (Err r) e s = absurd s
 
     within : (fuel : ℕ) (β : ℕ → ℕ) → ((i : ℕ) → 1 ≤ β i) → (c : ℕ) → 1 ≤ c → c ≤ end → end - c ≤ fuel → Runs β c
     within zero β some c h l f = go_on β c l (λ n a b. absurd (omega arith)) (call c (β 0)) refl (says c (β 0) h l (some 0))

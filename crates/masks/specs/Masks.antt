@@ -3,8 +3,9 @@
 -- budget) or finished (cursor 2^k, also when the cursor reaches 2^k with none found). The masks examined are counted: next cursor less old cursor.
 -- Choice examines from 1, at most a budget of masks, and answers the first that satisfies, or paused (1 + budget)"; 19, 20 and 21 and their order.
 -- Here `sat` says which masks satisfy the expression, and k is how many licensees are found: bit 0 is the first of them.
-use Rattle.std.specs.Prelude.{ℕ, zero, suc, ◌+◌, ◌-◌, ◌/◌, ◌%◌, ◌^◌, min, Bool, cond, ◌&&◌, eqb, leb, ltb}
+use Rattle.std.specs.Prelude.{ℕ, zero, suc, ◌+◌, ◌-◌, ◌/◌, ◌%◌, ◌^◌, min, Bool, cond, ◌&&◌, eqb, leb, ltb, Result, Ok, Err}
 use Rattle.text.specs.First.{first}
+use Rattle.refusal.specs.declared.Refusal.{Refusal}
 use Rattle.refusal.specs.declared.Refusal.TheVariants.{RequirementsUnmet, BadCursor, NoBudget}
 use Rattle.masks.specs.declared.Choice.{Choice}
 use Rattle.masks.specs.declared.Choice.TheVariants as C
@@ -44,12 +45,12 @@ settled n x = cond (ltb x (1 + n)) (C.Mask x) (C.Paused (1 + n))
 
 module _ (sat : ℕ → Bool) (k : ℕ) where
   -- "for the listing 20, 21": "cursor not in 1 to 2^k", "budget 0"
-  unfoldable pub listed : ℕ → ℕ → Listing
+  unfoldable pub listed : ℕ → ℕ → Result Listing Refusal
   listed c b =
       cond (leb 1 c && leb c (2 ^ k))
-      (cond (eqb b 0) (L.Refused NoBudget) (searched (minimal sat k) (2 ^ k) c (min b (2 ^ k - c))))
-      (L.Refused (BadCursor c))
+      (cond (eqb b 0) (Err NoBudget) (Ok (searched (minimal sat k) (2 ^ k) c (min b (2 ^ k - c)))))
+      (Err (BadCursor c))
 
   -- "for choice 19, 21": "all found together fail", "budget 0"
-  unfoldable pub chosen : ℕ → Choice
-  chosen b = cond (sat (2 ^ k - 1)) (cond (eqb b 0) (C.Refused NoBudget) (settled b (first sat b 1))) (C.Refused RequirementsUnmet)
+  unfoldable pub chosen : ℕ → Result Choice Refusal
+  chosen b = cond (sat (2 ^ k - 1)) (cond (eqb b 0) (Err NoBudget) (Ok (settled b (first sat b 1)))) (Err RequirementsUnmet)

@@ -2,8 +2,9 @@
 -- the expression and loses that if any member is taken out, each once, in ascending mask order; none exactly when no set satisfies; the first is the
 -- minimized choice once its budget reaches it; every call with a budget of one or more moves on or is at the end".
 -- `call` is the listing by cursor and budget, `pick` the choice by budget, `sat` says which masks satisfy, k is how many licensees are found.
-use Rattle.std.specs.Prelude.{ℕ, suc, ◌+◌, ◌-◌, ◌^◌, ◌<◌, ◌≤◌, ◌≡◌, Bool, true, false}
+use Rattle.std.specs.Prelude.{ℕ, suc, ◌+◌, ◌-◌, ◌^◌, ◌<◌, ◌≤◌, ◌≡◌, Bool, true, false, Result, Ok, Err}
 use mathlib.Core.List.{List, [], ◌∷◌, Memᴰ}
+use Rattle.refusal.specs.declared.Refusal.{Refusal}
 use Rattle.refusal.specs.declared.Refusal.TheVariants.{RequirementsUnmet}
 use Rattle.masks.specs.declared.Choice.{Choice}
 use Rattle.masks.specs.declared.Choice.TheVariants as C
@@ -16,10 +17,10 @@ abbrev pub later : (ℕ → ℕ) → ℕ → ℕ
 later β i = β (suc i)
 
 -- calls from cursor c on, the first with budget β 0, each from the cursor that the last one gave, that give the masks of a list and end finished
-pub data Run (call : ℕ → ℕ → Listing) : (ℕ → ℕ) → ℕ → List ℕ → Type 0 where
-  over : {β : ℕ → ℕ} {c e : ℕ} → call c (β 0) ≡ L.Finished e → Run call β c []
-  more : {β : ℕ → ℕ} {c m n : ℕ} {ms : List ℕ} → call c (β 0) ≡ L.Found m n → Run call (later β) n ms → Run call β c (m ∷ ms)
-  wait : {β : ℕ → ℕ} {c n : ℕ} {ms : List ℕ} → call c (β 0) ≡ L.Paused n → Run call (later β) n ms → Run call β c ms
+pub data Run (call : ℕ → ℕ → Result Listing Refusal) : (ℕ → ℕ) → ℕ → List ℕ → Type 0 where
+  over : {β : ℕ → ℕ} {c e : ℕ} → call c (β 0) ≡ Ok (L.Finished e) → Run call β c []
+  more : {β : ℕ → ℕ} {c m n : ℕ} {ms : List ℕ} → call c (β 0) ≡ Ok (L.Found m n) → Run call (later β) n ms → Run call β c (m ∷ ms)
+  wait : {β : ℕ → ℕ} {c n : ℕ} {ms : List ℕ} → call c (β 0) ≡ Ok (L.Paused n) → Run call (later β) n ms → Run call β c ms
 
 -- each number of the list is at least `from`, and more than the one before it
 abbrev pub Ascending : ℕ → List ℕ → Type 0
@@ -32,13 +33,13 @@ pub record Minimal (sat : ℕ → Bool) (m : ℕ) : Type 0 where
   pub needs : (i : ℕ) → has m i ≡ true → sat (m - 2 ^ i) ≡ false
 
 -- a call at cursor c with budget b moves on or is at the end, and examines at most b masks, exactly b where it pauses
-abbrev pub Moves : ℕ → ℕ → ℕ → Listing → Type 0
-Moves k c b (L.Found m n) = (c < n) × (n - c ≤ b)
-Moves k c b (L.Paused n) = (c < n) × (n - c ≡ b)
-Moves k c b (L.Finished n) = (n ≡ 2 ^ k) × (n - c ≤ b)
-Moves k c b (L.Refused r) = ⊥
+abbrev pub Moves : ℕ → ℕ → ℕ → Result Listing Refusal → Type 0
+Moves k c b (Ok (L.Found m n)) = (c < n) × (n - c ≤ b)
+Moves k c b (Ok (L.Paused n)) = (c < n) × (n - c ≡ b)
+Moves k c b (Ok (L.Finished n)) = (n ≡ 2 ^ k) × (n - c ≤ b)
+Moves k c b (Err r) = ⊥
 
-pub record Promise (call : ℕ → ℕ → Listing) (pick : ℕ → Choice) (sat : ℕ → Bool) (k : ℕ) (ms : List ℕ) : Type 0 where
+pub record Promise (call : ℕ → ℕ → Result Listing Refusal) (pick : ℕ → Result Choice Refusal) (sat : ℕ → Bool) (k : ℕ) (ms : List ℕ) : Type 0 where
   -- "each once, in ascending mask order"
   pub ascending : Ascending 1 ms
   -- "every set of found licensees that satisfies the expression and loses that if any member is taken out", and no other
@@ -48,16 +49,16 @@ pub record Promise (call : ℕ → ℕ → Listing) (pick : ℕ → Choice) (sat
   pub none : ms ≡ [] → (m : ℕ) → m < 2 ^ k → sat m ≡ false
   pub empty : ((m : ℕ) → m < 2 ^ k → sat m ≡ false) → ms ≡ []
   -- "the first is the minimized choice once its budget reaches it"
-  pub leads : {m : ℕ} {rest : List ℕ} → ms ≡ m ∷ rest → (b : ℕ) → m ≤ b → pick b ≡ C.Mask m
-  pub waits : {m : ℕ} {rest : List ℕ} → ms ≡ m ∷ rest → (b : ℕ) → 1 ≤ b → b < m → pick b ≡ C.Paused (1 + b)
-  pub unmet : ms ≡ [] → (b : ℕ) → pick b ≡ C.Refused RequirementsUnmet
+  pub leads : {m : ℕ} {rest : List ℕ} → ms ≡ m ∷ rest → (b : ℕ) → m ≤ b → pick b ≡ Ok (C.Mask m)
+  pub waits : {m : ℕ} {rest : List ℕ} → ms ≡ m ∷ rest → (b : ℕ) → 1 ≤ b → b < m → pick b ≡ Ok (C.Paused (1 + b))
+  pub unmet : ms ≡ [] → (b : ℕ) → pick b ≡ Err RequirementsUnmet
   -- the first is the numerically least set that satisfies
   pub least : {m : ℕ} {rest : List ℕ} → ms ≡ m ∷ rest → (x : ℕ) → sat x ≡ true → m ≤ x
   -- "every call with a budget of one or more moves on or is at the end"
   pub moves : (c b : ℕ) → 1 ≤ c → c ≤ 2 ^ k → 1 ≤ b → Moves k c b (call c b)
 
 -- with any budgets of one or more the run from cursor 1 ends, and keeps the promise
-pub record Kept (call : ℕ → ℕ → Listing) (pick : ℕ → Choice) (sat : ℕ → Bool) (k : ℕ) (β : ℕ → ℕ) : Type 0 where
+pub record Kept (call : ℕ → ℕ → Result Listing Refusal) (pick : ℕ → Result Choice Refusal) (sat : ℕ → Bool) (k : ℕ) (β : ℕ → ℕ) : Type 0 where
   pub masks : List ℕ
   pub run : Run call β 1 masks
   pub promise : Promise call pick sat k masks

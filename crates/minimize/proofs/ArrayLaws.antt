@@ -1,106 +1,127 @@
--- Laws of the loops that fill the arrays: one more node, one more licensee listed, one more bit, one more mask.
-use Rattle.std.specs.Prelude.{ℕ, ◌+◌, ◌*◌, ◌^◌, ◌<◌, ◌≡◌, Bool, true, false, ◌&&◌, get_or, take, set}
-use Rattle.std.proofs.Common.{sym, ◌∙◌, subst, arith, add-one, take-suc, take-suc-set}
-use Rattle.std.proofs.Math.Path.{ap}
-use Rattle.std.proofs.Math.Bool.{cond, not}
-use mathlib.Core.List.{List, [], ◌∷◌, ◌++◌, map, map-append, append-nil}
-use Rattle.std.proofs.Math.ListN.{length}
+-- Laws of the loops that fill the arrays: one more node, one more licensee listed, one more bit.
+use Rattle.std.specs.Prelude.{ℕ, ◌+◌, ◌*◌, ◌^◌, ◌<◌, ◌≡◌, Bool, true, false, cond, not, ◌&&◌, List, [], ◌∷◌, ◌++◌, get_or, length, take}
+use Rattle.std.specs.List.{list_any}
+use Rattle.std.proofs.Common.{refl, sym, ap, ◌∙◌, subst, arith, append_assoc, append-nil, length-take-le}
+use Rattle.std.proofs.lemmas.List.{take_more}
+use Rattle.grammar.specs.declared.Node.TheVariants as K
 use Rattle.grammar.specs.declared.Node.{Node}
+use Rattle.grammar.specs.declared.Leaf.{Leaf}
 use Rattle.licensee.specs.declared.Terms.{Terms}
-use Rattle.licensee.specs.Terms.{same_terms, meets}
+use Rattle.licensee.specs.Terms.{terms_of, SmallLicence, SmallAddition, same_terms, meets}
 use Rattle.masks.specs.Value.{digit}
-use Rattle.minimize.specs.Minimize.{some_of}
-use Rattle.minimize.specs.Posed.{node_terms, SmallKind, SmallNodes, terms_at, triples, bits, found_terms, found_places}
-use Rattle.minimize.proofs.ListLaws.{found_snoc, places_snoc}
-use Rattle.minimize.proofs.TripleLaws.{triples_length, triples_next, bits_next, bits_below, map_next}
+use Rattle.minimize.specs.Posed.{node_terms, leaf_terms, SmallNode, SmallNodes, bits, found_terms, found_places, mask_of}
+use Rattle.minimize.proofs.ListLaws.{found_snoc, places_snoc, bits_lt, bits_snoc}
 
--- one more node
-small_snoc : (q : List Node) (x : Node) → SmallNodes q → SmallKind x.kind → SmallNodes (q ++ (x ∷ []))
+-- the leaves of nodes one behind the other
+pub leaves_append : (q r : List Node) → leaf_terms (q ++ r) ≡ leaf_terms q ++ leaf_terms r
+unfolding leaf_terms
+leaves_append [] r = refl
+leaves_append (x ∷ q) r =
+    ap (λ (l : List Terms). node_terms x ++ l) (leaves_append q r) ∙ sym (append_assoc (node_terms x) (leaf_terms q) (leaf_terms r))
+
+small_snoc : (q : List Node) (x : Node) → SmallNodes q → SmallNode x → SmallNodes (q ++ (x ∷ []))
 small_snoc [] x h k = (k, tt)
 small_snoc (y ∷ q) x h k = (h.0, small_snoc q x h.1 k)
 
-module _ (nodes : List Node) (i : ℕ) (d : Node) (h : i < length nodes) where
-  nodes_next : take (i + 1) nodes ≡ take i nodes ++ (get_or nodes i d ∷ [])
-  nodes_next = rw (add-one i) (take-suc nodes i d h)
+-- a node that is no leaf
+no_leaf : (k : Node) → ((x : Leaf) → k ≡ K.Leaf x → ⊥) → (node_terms k ≡ []) × SmallNode k
+no_leaf K.Blank n = (refl, tt)
+no_leaf (K.Leaf x) n = absurd (n x refl)
+no_leaf K.And n = (refl, tt)
+no_leaf K.Or n = (refl, tt)
 
-  pub asked_next : (ts : List Terms) (t : Terms) → ts ≡ map node_terms (take i nodes) → t ≡ node_terms (get_or nodes i d)
-      → ts ++ (t ∷ []) ≡ map node_terms (take (i + 1) nodes)
-  asked_next ts t e g =
-      let w : map node_terms (take (i + 1) nodes) ≡ map node_terms (take i nodes) ++ (node_terms (get_or nodes i d) ∷ []) =
-      ap (map node_terms) nodes_next ∙ map-append node_terms (take i nodes) (get_or nodes i d ∷ []) in
-      cc
-
-  pub small_next : SmallNodes (take i nodes) → SmallKind (get_or nodes i d).kind → SmallNodes (take (i + 1) nodes)
-  small_next s k = subst SmallNodes (sym nodes_next) (small_snoc (take i nodes) (get_or nodes i d) s k)
-
--- one more licensee listed: it is found where it is wanted and not known, and its place is stored at j in g
+-- one more node
 module _
-    (f s : List ℕ) (xs : List Terms) (k l a : List ℕ) (i : ℕ) (fs : List Terms) (e : fs ≡ found_terms f s xs (triples k l a i))
-    (g : List ℕ) (j : ℕ) (p : take j g ≡ found_places f s xs (triples k l a i))
+    (nodes : List Node) (i : ℕ) (d : Node) (h : i < length nodes)
+    (ts : List Terms) (e : ts ≡ leaf_terms (take i nodes)) (small : SmallNodes (take i nodes))
+  where
+    -- the terms of the leaves with it
+    abbrev More : List Terms → Type 0
+    More us = (us ≡ leaf_terms (take (i + 1) nodes)) × SmallNodes (take (i + 1) nodes)
+
+    node_more : (us : List Terms) → node_terms (get_or nodes i d) ≡ us → SmallNode (get_or nodes i d) → More (ts ++ us)
+    unfolding leaf_terms
+    node_more us k s =
+        let x = get_or nodes i d in
+        let w : leaf_terms (x ∷ []) ≡ us = append-nil (node_terms x) ∙ k in (
+          rw (e, ← w) (sym (ap leaf_terms (take_more nodes i d h) ∙ leaves_append (take i nodes) (x ∷ []))),
+          subst SmallNodes (sym (take_more nodes i d h)) (small_snoc (take i nodes) x small s),
+        )
+
+    pub leaf_more : (x : Leaf) (t : Terms) → get_or nodes i d ≡ K.Leaf x → t ≡ terms_of x.licence x.addition
+        → SmallLicence x.licence × SmallAddition x.addition → More (ts ++ (t ∷ []))
+    leaf_more x t k u s = node_more (t ∷ []) (ap node_terms k ∙ ap (λ (z : Terms). z ∷ []) (sym u)) (subst SmallNode (sym k) s)
+
+    pub none_more : ((x : Leaf) → get_or nodes i d ≡ K.Leaf x → ⊥) → More ts
+    none_more n = let w = no_leaf _ n in subst More (append-nil ts) (node_more [] w.0 w.1)
+
+-- one more licensee listed: it is found where it is wanted and not known
+module _
+    (f s : List ℕ) (xs list : List Terms) (i : ℕ) (d : Terms) (h : i < length list)
+    (fs : List Terms) (e : fs ≡ found_terms f s xs (take i list)) (ps : List ℕ) (p : ps ≡ found_places f s xs (take i list))
   where
     abbrev x : Terms
-    x = terms_at k l a i
+    x = get_or list i d
 
     abbrev is_wanted : Bool
-    is_wanted = some_of (meets f s x) xs
+    is_wanted = list_any (meets f s x) xs
 
     abbrev is_known : Bool
-    is_known = some_of (same_terms f f x) fs
+    is_known = list_any (same_terms f f x) fs
 
     abbrev wants : Terms → Bool
-    wants y = some_of (meets f s y) xs
+    wants y = list_any (meets f s y) xs
 
-    found_next : found_terms f s xs (triples k l a (i + 1)) ≡ cond (is_wanted && not is_known) (fs ++ (x ∷ [])) fs
+    found_next : found_terms f s xs (take (i + 1) list) ≡ cond (is_wanted && not is_known) (fs ++ (x ∷ [])) fs
     unfolding found_terms
     found_next =
-        ap (found_terms f s xs) (triples_next k l a i) ∙ found_snoc (same_terms f f) wants [] (triples k l a i) x
-        ∙ ap (λ (q : List Terms). cond (is_wanted && not (some_of (same_terms f f x) q)) (q ++ (x ∷ [])) q) (sym e)
+        ap (found_terms f s xs) (take_more list i d h) ∙ found_snoc (same_terms f f) wants [] (take i list) x
+        ∙ ap (λ (q : List Terms). cond (is_wanted && not (list_any (same_terms f f x) q)) (q ++ (x ∷ [])) q) (sym e)
 
-    places_next : found_places f s xs (triples k l a (i + 1)) ≡ take j g ++ cond (is_wanted && not is_known) (i ∷ []) []
+    places_next : found_places f s xs (take (i + 1) list) ≡ ps ++ cond (is_wanted && not is_known) (i ∷ []) []
     unfolding found_terms found_places
     places_next =
-        let n : i ≡ 0 + length (triples k l a i) = omega (arith, triples_length k l a i) in
-        ap (found_places f s xs) (triples_next k l a i) ∙ places_snoc (same_terms f f) wants [] (triples k l a i) 0 i x n
-        ∙ ap (λ (q : List Terms). found_places f s xs (triples k l a i) ++ cond (is_wanted && not (some_of (same_terms f f x) q)) (i ∷ []) []) (sym e)
+        let n : i ≡ 0 + length (take i list) = omega (arith, length-take-le i list (omega arith)) in
+        ap (found_places f s xs) (take_more list i d h) ∙ places_snoc (same_terms f f) wants [] (take i list) 0 i x n
+        ∙ ap (λ (q : List Terms). found_places f s xs (take i list) ++ cond (is_wanted && not (list_any (same_terms f f x) q)) (i ∷ []) []) (sym e)
         ∙ ap (λ (q : List ℕ). q ++ cond (is_wanted && not is_known) (i ∷ []) []) (sym p)
 
     -- the found and their places with it
     abbrev Next : List Terms → List ℕ → Type 0
-    Next ts ps = (ts ≡ found_terms f s xs (triples k l a (i + 1))) × (ps ≡ found_places f s xs (triples k l a (i + 1)))
+    Next ts qs = (ts ≡ found_terms f s xs (take (i + 1) list)) × (qs ≡ found_places f s xs (take (i + 1) list))
 
-    next_kept : (is_wanted && not is_known) ≡ false → Next fs (take j g)
-    next_kept n = (sym (found_next ∙ rw n), sym (places_next ∙ rw n (append-nil (take j g))))
+    next_kept : (is_wanted && not is_known) ≡ false → Next fs ps
+    next_kept n = (sym (found_next ∙ rw n), sym (places_next ∙ rw n (append-nil ps)))
 
-    pub found_new : is_wanted ≡ true → is_known ≡ false → j < length g → Next (fs ++ (x ∷ [])) (take (j + 1) (set g j i))
-    found_new w n h =
-        let t : take (j + 1) (set g j i) ≡ take j g ++ (i ∷ []) = rw (add-one j) (take-suc-set g j i h) in
-        (sym (found_next ∙ rw (w, n)), t ∙ sym (places_next ∙ rw (w, n)))
+    pub found_new : is_wanted ≡ true → is_known ≡ false → Next (fs ++ (x ∷ [])) (ps ++ (i ∷ []))
+    found_new w n = (sym (found_next ∙ rw (w, n)), sym (places_next ∙ rw (w, n)))
 
-    pub found_known : is_wanted ≡ true → is_known ≡ true → Next fs (take j g)
+    pub found_known : is_wanted ≡ true → is_known ≡ true → Next fs ps
     found_known w n = next_kept (rw (w, n))
 
-    pub found_unwanted : is_wanted ≡ false → Next fs (take j g)
+    pub found_unwanted : is_wanted ≡ false → Next fs ps
     found_unwanted w = next_kept (rw w)
 
 -- one more bit
-module _ (p : Terms → Bool) (k l a : List ℕ) (i m : ℕ) (e : m ≡ bits p (triples k l a i)) where
+module _ (f s : List ℕ) (x : Terms) (found : List Terms) (i : ℕ) (d : Terms) (h : i < length found) (m : ℕ) (e : m ≡ mask_of f s (take i found) x) where
   pub mask_below : m < 2 ^ i
-  mask_below = subst (λ (n : ℕ). n < 2 ^ i) (sym e) (bits_below p k l a i)
+  unfolding mask_of
+  mask_below =
+      let n = length-take-le i found (omega arith) in
+      subst (λ (k : ℕ). k < 2 ^ i) (sym e) (rw n at (bits_lt (λ (l : Terms). meets f s l x) (take i found)))
 
-  pub mask_on : p (terms_at k l a i) ≡ true → m + 2 ^ i ≡ bits p (triples k l a (i + 1))
+  mask_next : mask_of f s (take (i + 1) found) x ≡ m + digit (meets f s (get_or found i d) x) * 2 ^ i
+  unfolding mask_of
+  mask_next =
+      let p = λ (l : Terms). meets f s l x in
+      ap (bits p) (take_more found i d h) ∙ bits_snoc p (take i found) (get_or found i d) ∙ rw (length-take-le i found (omega arith), e)
+
+  pub mask_on : meets f s (get_or found i d) x ≡ true → m + 2 ^ i ≡ mask_of f s (take (i + 1) found) x
   mask_on t =
-      let d : digit (p (terms_at k l a i)) * 2 ^ i ≡ 2 ^ i = rw t (omega arith) in
-      omega (arith, bits_next p k l a i)
+      let w : digit (meets f s (get_or found i d) x) * 2 ^ i ≡ 2 ^ i = rw t (omega arith) in
+      omega (arith, mask_next)
 
-  pub mask_off : p (terms_at k l a i) ≡ false → m ≡ bits p (triples k l a (i + 1))
+  pub mask_off : meets f s (get_or found i d) x ≡ false → m ≡ mask_of f s (take (i + 1) found) x
   mask_off t =
-      let d : digit (p (terms_at k l a i)) * 2 ^ i ≡ 0 = rw t (omega arith) in
-      omega (arith, bits_next p k l a i)
-
--- one more mask
-pub met_next : (g : Terms → ℕ) (k l a met : List ℕ) (i v : ℕ) → i < length met → take i met ≡ map g (triples k l a i) → v ≡ g (terms_at k l a i)
-    → take (i + 1) (set met i v) ≡ map g (triples k l a (i + 1))
-met_next g k l a met i v h e t =
-    let w : take (i + 1) (set met i v) ≡ take i met ++ (v ∷ []) = rw (add-one i) (take-suc-set met i v h) in
-    let n = map_next g k l a i in
-    cc
+      let w : digit (meets f s (get_or found i d) x) * 2 ^ i ≡ 0 = rw t (omega arith) in
+      omega (arith, mask_next)

@@ -1,10 +1,9 @@
-pub mod ArrayLaws
 pub mod AskLaws
+pub mod ArrayLaws
 pub mod ListLaws
 pub mod PlacesLaws
 pub mod PosedLaws
 pub mod ProblemLaws
 pub mod Satisfaction
 pub mod Third
-pub mod TripleLaws
 pub mod Unique

@@ -3,7 +3,7 @@ use Prim.Native.Nat.{ℕ, zero, suc, ◌+◌, ◌*◌, ◌/◌, ◌%◌, ◌^◌
 use Rattle.std.specs.Prelude.{◌≡◌, ◌&&◌, ◌||◌}
 use Rattle.std.proofs.Math.Path.{refl, sym, ap}
 use Rattle.std.proofs.Common.{◌∙◌, subst, mul-add, eq-eqb, ne_eqb, eqb-true}
-use Rattle.std.proofs.Math.Bool.{Bool, true, false, cond, not, or_assoc}
+use Rattle.std.proofs.Math.Bool.{Bool, true, false, cond, not}
 use mathlib.Core.List.{List, [], ◌∷◌, ◌++◌, map, map-append, append_assoc, append-nil}
 use native.Mathlib.Omega.{arith}
 use Rattle.std.proofs.Math.Nat.{two-pow-succ}
@@ -13,7 +13,8 @@ use Rattle.std.proofs.Math.ListN.{length, get_or, length-append}
 use Rattle.std.proofs.lemmas.List.{length-map}
 use Rattle.std.proofs.lemmas.Bool.{eqb-false}
 use Rattle.masks.specs.Value.{shares, digit}
-use Rattle.minimize.specs.Minimize.{some_of, found_after, found_at, member}
+use Rattle.std.specs.List.{list_any}
+use Rattle.minimize.specs.Minimize.{found_after, found_at, member}
 use Rattle.minimize.specs.Posed.{bits}
 
 -- P holds of each of the list
@@ -36,38 +37,31 @@ each_imp P Q h (x ∷ l) a = (h x a.0, each_imp P Q h l a.1)
 
 -- what passes
 module _ {A : Type 0} (p : A → Bool) where
-  pub some_append : (l r : List A) → some_of p (l ++ r) ≡ (some_of p l || some_of p r)
-  unfolding some_of
-  some_append [] r = refl
-  some_append (x ∷ l) r = ap (λ (b : Bool). p x || b) (some_append l r) ∙ sym (or_assoc (p x) (some_of p l) (some_of p r))
-
-  pub some_map : {B : Type 0} (g : B → A) (l : List B) → some_of p (map g l) ≡ some_of (λ (x : B). p (g x)) l
-  unfolding some_of
+  pub some_map : {B : Type 0} (g : B → A) (l : List B) → list_any p (map g l) ≡ list_any (λ (x : B). p (g x)) l
   some_map g [] = refl
   some_map g (x ∷ l) = ap (λ (b : Bool). p (g x) || b) (some_map g l)
 
-  pub some_same : (q : A → Bool) (l : List A) → Each (λ (x : A). p x ≡ q x) l → some_of p l ≡ some_of q l
-  unfolding some_of
+  pub some_same : (q : A → Bool) (l : List A) → Each (λ (x : A). p x ≡ q x) l → list_any p l ≡ list_any q l
   some_same q [] a = refl
-  some_same q (x ∷ l) a = let h : some_of p l ≡ some_of q l = some_same q l a.1 in ap (λ (b : Bool). p x || b) h ∙ ap (λ (b : Bool). b || some_of q l) a.0
+  some_same q (x ∷ l) a = let h : list_any p l ≡ list_any q l = some_same q l a.1 in ap (λ (b : Bool). p x || b) h ∙ ap (λ (b : Bool). b || list_any q l) a.0
 
 -- what is found
 module _ {A : Type 0} (same : A → A → Bool) (wanted : A → Bool) where
   pub found_append : (fs l r : List A) → found_after same wanted fs (l ++ r) ≡ found_after same wanted (found_after same wanted fs l) r
   unfolding found_after
   found_append fs [] r = refl
-  found_append fs (x ∷ l) r = found_append (cond (wanted x && not (some_of (same x) fs)) (fs ++ (x ∷ [])) fs) l r
+  found_append fs (x ∷ l) r = found_append (cond (wanted x && not (list_any (same x) fs)) (fs ++ (x ∷ [])) fs) l r
 
   -- one more of the list: found or passed over
   pub found_snoc : (fs l : List A) (x : A) → found_after same wanted fs (l ++ (x ∷ []))
-      ≡ cond (wanted x && not (some_of (same x) (found_after same wanted fs l))) (found_after same wanted fs l ++ (x ∷ [])) (found_after same wanted fs l)
+      ≡ cond (wanted x && not (list_any (same x) (found_after same wanted fs l))) (found_after same wanted fs l ++ (x ∷ [])) (found_after same wanted fs l)
   unfolding found_after
   found_snoc fs l x = found_append fs l (x ∷ [])
 
   pub found_length : (fs l : List A) → length (found_after same wanted fs l) ≤ length fs + length l
   unfolding found_after
   found_length fs [] = omega arith
-  found_length fs (x ∷ l) = go (wanted x && not (some_of (same x) fs)) (λ gs. found_length gs l)
+  found_length fs (x ∷ l) = go (wanted x && not (list_any (same x) fs)) (λ gs. found_length gs l)
     where
       go : (b : Bool) → ((gs : List A) → length (found_after same wanted gs l) ≤ length gs + length l)
           → length (found_after same wanted (cond b (fs ++ (x ∷ [])) fs) l) ≤ length fs + suc (length l)
@@ -79,20 +73,20 @@ module _ {A : Type 0} (same : A → A → Bool) (wanted : A → Bool) where
   unfolding found_after
   found_each P fs [] a b = a
   found_each P fs (x ∷ l) a b =
-      let t : Bool = wanted x && not (some_of (same x) fs) in
+      let t : Bool = wanted x && not (list_any (same x) fs) in
       found_each P (cond t (fs ++ (x ∷ [])) fs) l (each_kept P t fs x a b.0) b.1
 
   -- one more of the list: its place n is the next, or it has none
   pub places_snoc : (fs l : List A) (i n : ℕ) (x : A) → n ≡ i + length l → found_at same wanted fs i (l ++ (x ∷ []))
-      ≡ found_at same wanted fs i l ++ cond (wanted x && not (some_of (same x) (found_after same wanted fs l))) (n ∷ []) []
+      ≡ found_at same wanted fs i l ++ cond (wanted x && not (list_any (same x) (found_after same wanted fs l))) (n ∷ []) []
   unfolding found_after found_at
   places_snoc fs [] i n x e =
       let h : i ≡ n = omega arith in
-      ap (λ (m : ℕ). cond (wanted x && not (some_of (same x) fs)) (m ∷ []) []) h
-  places_snoc fs (y ∷ l) i n x e = go (wanted y && not (some_of (same y) fs)) (λ gs. places_snoc gs l (i + 1) n x (omega arith))
+      ap (λ (m : ℕ). cond (wanted x && not (list_any (same x) fs)) (m ∷ []) []) h
+  places_snoc fs (y ∷ l) i n x e = go (wanted y && not (list_any (same y) fs)) (λ gs. places_snoc gs l (i + 1) n x (omega arith))
     where
       last : List A → List ℕ
-      last gs = cond (wanted x && not (some_of (same x) (found_after same wanted gs l))) (n ∷ []) []
+      last gs = cond (wanted x && not (list_any (same x) (found_after same wanted gs l))) (n ∷ []) []
 
       go : (b : Bool) → ((gs : List A) → found_at same wanted gs (i + 1) (l ++ (x ∷ [])) ≡ found_at same wanted gs (i + 1) l ++ last gs)
           → cond b (i ∷ found_at same wanted (fs ++ (y ∷ [])) (i + 1) (l ++ (x ∷ []))) (found_at same wanted fs (i + 1) (l ++ (x ∷ [])))
@@ -106,7 +100,7 @@ module _ {A : Type 0} (same : A → A → Bool) (wanted : A → Bool) where
   unfolding found_after found_at
   places_read d g fs [] i h = sym (append-nil fs)
   places_read d g fs (x ∷ l) i h =
-      go (wanted x && not (some_of (same x) fs)) (λ gs. places_read d g gs l (i + 1) (λ j n e b. h (suc j) n (omega arith) (omega arith)))
+      go (wanted x && not (list_any (same x) fs)) (λ gs. places_read d g gs l (i + 1) (λ j n e b. h (suc j) n (omega arith) (omega arith)))
     where
       go : (b : Bool) → ((gs : List A) → found_after same wanted gs l ≡ gs ++ map g (found_at same wanted gs (i + 1) l))
           → found_after same wanted (cond b (fs ++ (x ∷ [])) fs) l
@@ -131,22 +125,22 @@ module _ {A : Type 0} (same : A → A → Bool) (wanted : A → Bool) where
       (s : (x y : A) → P x → P y → alike (g x) (g y) ≡ same x y) (w : (x : A) → P x → asked (g x) ≡ wanted x)
     where
       test : (fs : List A) (x : A) → Each P fs → P x
-          → (asked (g x) && not (some_of (alike (g x)) (map g fs))) ≡ (wanted x && not (some_of (same x) fs))
-      test fs x a h = ap (λ (c : Bool). c && not (some_of (alike (g x)) (map g fs))) (w x h) ∙ ap (λ (c : Bool). wanted x && not c) known
+          → (asked (g x) && not (list_any (alike (g x)) (map g fs))) ≡ (wanted x && not (list_any (same x) fs))
+      test fs x a h = ap (λ (c : Bool). c && not (list_any (alike (g x)) (map g fs))) (w x h) ∙ ap (λ (c : Bool). wanted x && not c) known
         where
-          known : some_of (alike (g x)) (map g fs) ≡ some_of (same x) fs
+          known : list_any (alike (g x)) (map g fs) ≡ list_any (same x) fs
           known = some_map (alike (g x)) g fs ∙ some_same (λ (y : A). alike (g x) (g y)) (same x) fs (each_imp P _ (λ y k. s x y h k) fs a)
 
       pub found_map : (fs l : List A) → Each P fs → Each P l → found_after alike asked (map g fs) (map g l) ≡ map g (found_after same wanted fs l)
       unfolding found_after
       found_map fs [] a b = refl
       found_map fs (x ∷ l) a b =
-          let t : Bool = wanted x && not (some_of (same x) fs) in
+          let t : Bool = wanted x && not (list_any (same x) fs) in
           ap (λ (k : List B). found_after alike asked k (map g l)) (step t (test fs x a b.0))
           ∙ found_map (cond t (fs ++ (x ∷ [])) fs) l (each_kept P t fs x a b.0) b.1
         where
-          step : (t : Bool) → (asked (g x) && not (some_of (alike (g x)) (map g fs))) ≡ t
-              → cond (asked (g x) && not (some_of (alike (g x)) (map g fs))) (map g fs ++ (g x ∷ [])) (map g fs) ≡ map g (cond t (fs ++ (x ∷ [])) fs)
+          step : (t : Bool) → (asked (g x) && not (list_any (alike (g x)) (map g fs))) ≡ t
+              → cond (asked (g x) && not (list_any (alike (g x)) (map g fs))) (map g fs ++ (g x ∷ [])) (map g fs) ≡ map g (cond t (fs ++ (x ∷ [])) fs)
           step true e = ap (λ (c : Bool). cond c (map g fs ++ (g x ∷ [])) (map g fs)) e ∙ sym (map-append g fs (x ∷ []))
           step false e = ap (λ (c : Bool). cond c (map g fs ++ (g x ∷ [])) (map g fs)) e
 

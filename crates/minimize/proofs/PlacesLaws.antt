@@ -1,20 +1,20 @@
 -- The places of the found licensees: the licensees at them are the found, which are those of a mask's bits, and all stand in the list; they are
 -- refused exactly as choice and listing are, and as many as the bits of a mask.
-use Rattle.std.specs.Prelude.{ℕ, ◌+◌, ◌≤◌, ◌<◌, ◌≡◌, refl, Bool, true, false, cond, not, ◌&&◌, ltb, length, get_or}
+use Rattle.std.specs.Prelude.{ℕ, ◌+◌, ◌≤◌, ◌<◌, ◌≡◌, refl, Bool, true, false, cond, not, ◌&&◌, ltb, length, get_or, Option, Some, None}
 use mathlib.Core.List.{List, [], ◌∷◌, ◌++◌, map}
-use Rattle.std.proofs.Math.Option.{Option, none, some}
 use Rattle.std.proofs.Common.{arith, le-ltb}
 use Rattle.mode.specs.declared.Mode.{Mode}
 use Rattle.lexer.specs.Tokens.{Tokens}
 use Rattle.grammar.specs.declared.Leaf.{Leaf}
 use Rattle.grammar.specs.declared.Before.{Before}
 use Rattle.grammar.specs.Tree.{Tree, postfix}
-use Rattle.grammar.specs.Grammar.{Result, got, parse_of}
+use Rattle.grammar.specs.Grammar.{got, parse_of}
 use Rattle.grammar.specs.Grammar as Grammar
 use Rattle.licensee.specs.declared.Licensee.{Licensee}
 use Rattle.licensee.specs.Offers.{Accepts, good, wrong, list_of}
 use Rattle.licensee.specs.Satisfies.{equals}
-use Rattle.minimize.specs.Minimize.{some_of, found_at, tree_of, wanted, found_of, places_in, of_list, of_tree, of_text, Problem, refused, posed, limited, pose_of, problem_of, Places, unplaced, placed, few_places, place_of, places_of}
+use Rattle.std.specs.List.{list_any}
+use Rattle.minimize.specs.Minimize.{found_at, tree_of, wanted, found_of, places_in, of_list, of_tree, of_text, Problem, refused, posed, limited, pose_of, problem_of, Places, unplaced, placed, few_places, place_of, places_of}
 use Rattle.minimize.proofs.ListLaws.{Each, found_places_lem, places_length}
 use Rattle.minimize.proofs.PosedLaws.{tree_of_lem}
 
@@ -24,7 +24,7 @@ places_below : {A : Type 0} (same : A → A → Bool) (wanted : A → Bool) (n :
 unfolding found_at
 places_below same wanted n fs [] i h = tt
 places_below {A} same wanted n fs (x ∷ l) i h =
-    go (wanted x && not (some_of (same x) fs)) (λ gs. places_below same wanted n gs l (i + 1) (omega arith))
+    go (wanted x && not (list_any (same x) fs)) (λ gs. places_below same wanted n gs l (i + 1) (omega arith))
   where
     go : (b : Bool) → ((gs : List A) → Each (λ (p : ℕ). p < n) (found_at same wanted gs (i + 1) l))
         → Each (λ (p : ℕ). p < n) (cond b (i ∷ found_at same wanted (fs ++ (x ∷ [])) (i + 1) l) (found_at same wanted fs (i + 1) l))
@@ -65,10 +65,10 @@ places_alike s m f = by_text (parse_of s m)
     by_list t (wrong r) = refl
 
     by_tree : (o : Option (Tree Leaf)) → Alike (of_tree refused (pose_of f s) f o) (of_tree unplaced (place_of f s) f o)
-    by_tree none = refl
-    by_tree (some t) = by_list t (list_of f)
+    by_tree None = refl
+    by_tree (Some t) = by_list t (list_of f)
 
-    by_text : (w : Result) → Alike (of_text refused (pose_of f s) f w) (of_text unplaced (place_of f s) f w)
+    by_text : (w : Grammar.Result) → Alike (of_text refused (pose_of f s) f w) (of_text unplaced (place_of f s) f w)
     by_text (got q b ts) = by_tree (tree_of q)
     by_text (Grammar.refused r) = refl
 

@@ -1,7 +1,7 @@
 -- The third demand, of the public definitions: the listing of a text and a list, resumed until it is finished, gives every set of found licensees that
 -- satisfies and loses that if any member is taken out, as masks/specs/Promise.antt says it.
 use Prim.Native.Nat.{ℕ, ◌≤◌}
-use Rattle.std.specs.Prelude.{◌≡◌, Bool, true, List}
+use Rattle.std.specs.Prelude.{◌≡◌, Bool, true, List, Ok}
 use Rattle.std.proofs.Common.{sym, ap, ◌∙◌}
 use Rattle.std.proofs.Math.ListN.{length}
 use borrow.Author.Tests.{le-ltb}
@@ -44,7 +44,7 @@ module _ (s : List ℕ) (m : Mode) (f : List ℕ) (t : Tree Leaf) (b : Before) (
       sat = satisfied f s (found_of f s t ls) t
 
   -- a set that is chosen satisfies, and no set of a lesser mask does
-  pub choice_least : (b x : ℕ) → choice_of s m f b ≡ C.Mask x
+  pub choice_least : (b x : ℕ) → choice_of s m f b ≡ Ok (C.Mask x)
       → (satisfied f s (found_of f s t ls) t x ≡ true) × ((y : ℕ) → satisfied f s (found_of f s t ls) t y ≡ true → x ≤ y)
   choice_least b x e =
       chosen_least sat (satisfied_none f s (found_of f s t ls) t) k b x (sym q ∙ e)

@@ -1,8 +1,8 @@
 -- Choice and listing from text, mode and list, and where in the list the found licensees stand. Document 01: "A set satisfies a leaf if a member does,
 -- an AND if it satisfies both sides, an OR if either. Found licensees are those, in list order, that satisfy some leaf and equal no earlier found one;
 -- bit 0 is the first. Let k be their number. Choice and listing take text, mode and list"; "Then 17, 18, and for choice 19, 21, for the listing 20, 21".
-use Rattle.std.specs.Prelude.{ℕ, ◌+◌, ◌/◌, ◌%◌, Bool, false, cond, not, ◌&&◌, ◌||◌, List, [], ◌∷◌, ◌++◌, eqb, ltb, length}
-use Rattle.std.proofs.Math.Option.{Option, none, some}
+use Rattle.std.specs.Prelude.{ℕ, ◌+◌, ◌/◌, ◌%◌, Bool, false, cond, not, ◌&&◌, ◌||◌, List, [], ◌∷◌, ◌++◌, eqb, ltb, length, Result, Ok, Err, Option, Some, None}
+use Rattle.std.specs.List.{list_any}
 use Rattle.text.specs.Overlay.{overlay}
 use Rattle.refusal.specs.Refused.{span}
 use Rattle.refusal.specs.declared.Refusal.{Refusal}
@@ -11,34 +11,25 @@ use Rattle.mode.specs.declared.Mode.{Mode}
 use Rattle.grammar.specs.declared.Leaf.{Leaf}
 use Rattle.grammar.specs.declared.Node.{Node}
 use Rattle.grammar.specs.Tree.{Tree, just, both, either, meaning, run}
-use Rattle.grammar.specs.Grammar.{Result, got, parse_of}
+use Rattle.grammar.specs.Grammar.{got, parse_of}
 use Rattle.grammar.specs.Grammar as Grammar
 use Rattle.licensee.specs.declared.Licensee.{Licensee}
 use Rattle.licensee.specs.Offers.{Accepts, good, wrong, list_of}
 use Rattle.licensee.specs.Satisfies.{satisfies, equals}
 use Rattle.masks.specs.Masks.{chosen, listed}
 use Rattle.masks.specs.declared.Choice.{Choice}
-use Rattle.masks.specs.declared.Choice.TheVariants as C
 use Rattle.masks.specs.declared.Listing.{Listing}
-use Rattle.masks.specs.declared.Listing.TheVariants as L
-use Rattle.minimize.specs.declared.Finding.{Finding}
-use Rattle.minimize.specs.declared.Finding.TheVariants as F
-
--- some of the list passes
-unfoldable pub some_of : {A : Type 0} → (A → Bool) → List A → Bool
-some_of p [] = false
-some_of p (x ∷ l) = p x || some_of p l
 
 -- "in list order, that satisfy some leaf and equal no earlier found one": of a list, those that are wanted and the same as none got before
 unfoldable pub found_after : {A : Type 0} → (A → A → Bool) → (A → Bool) → List A → List A → List A
 found_after same wanted fs [] = fs
-found_after same wanted fs (x ∷ l) = found_after same wanted (cond (wanted x && not (some_of (same x) fs)) (fs ++ (x ∷ [])) fs) l
+found_after same wanted fs (x ∷ l) = found_after same wanted (cond (wanted x && not (list_any (same x) fs)) (fs ++ (x ∷ [])) fs) l
 
 -- the places, from i on, of those of a list that are wanted and the same as none got before
 unfoldable pub found_at : {A : Type 0} → (A → A → Bool) → (A → Bool) → List A → ℕ → List A → List ℕ
 found_at same wanted fs i [] = []
 found_at same wanted fs i (x ∷ l) =
-    cond (wanted x && not (some_of (same x) fs)) (i ∷ found_at same wanted (fs ++ (x ∷ [])) (i + 1) l) (found_at same wanted fs (i + 1) l)
+    cond (wanted x && not (list_any (same x) fs)) (i ∷ found_at same wanted (fs ++ (x ∷ [])) (i + 1) l) (found_at same wanted fs (i + 1) l)
 
 -- a member of the set m of the list passes: bit 0 of m is the first of the list
 unfoldable pub member : {A : Type 0} → (A → Bool) → List A → ℕ → Bool
@@ -47,9 +38,9 @@ member p (x ∷ l) m = (p x && eqb (m % 2) 1) || member p l (m / 2)
 
 -- the tree whose nodes in postfix these are
 abbrev pub on_top : List (Tree Leaf) → Option (Tree Leaf)
-on_top [] = none
-on_top (t ∷ []) = some t
-on_top (t ∷ u ∷ k) = none
+on_top [] = None
+on_top (t ∷ []) = Some t
+on_top (t ∷ u ∷ k) = None
 
 unfoldable pub tree_of : List Node → Option (Tree Leaf)
 tree_of q = on_top (run just both either q [])
@@ -79,10 +70,10 @@ module _ {P : Type 0} (refuse : Refusal → P) (make : Tree Leaf → List Licens
 
   -- nodes that were read are a tree's: the first case does not come up
   abbrev pub of_tree : Option (Tree Leaf) → P
-  of_tree none = refuse (Empty (span 0 0))
-  of_tree (some t) = of_list t (list_of f)
+  of_tree None = refuse (Empty (span 0 0))
+  of_tree (Some t) = of_list t (list_of f)
 
-  abbrev pub of_text : Result → P
+  abbrev pub of_text : Grammar.Result → P
   of_text (got q b ts) = of_tree (tree_of q)
   of_text (Grammar.refused r) = refuse r
 
@@ -102,19 +93,19 @@ pose_of f s t ls = limited f s t (found_of f s t ls)
 unfoldable pub problem_of : List ℕ → Mode → List ℕ → Problem
 problem_of s m f = of_text refused (pose_of f s) f (parse_of s m)
 
-abbrev pub chosen_in : Problem → ℕ → Choice
-chosen_in (refused r) b = C.Refused r
+abbrev pub chosen_in : Problem → ℕ → Result Choice Refusal
+chosen_in (refused r) b = Err r
 chosen_in (posed k sat) b = chosen sat k b
 
-abbrev pub listed_in : Problem → ℕ → ℕ → Listing
-listed_in (refused r) c b = L.Refused r
+abbrev pub listed_in : Problem → ℕ → ℕ → Result Listing Refusal
+listed_in (refused r) c b = Err r
 listed_in (posed k sat) c b = listed sat k c b
 
 -- what choice and listing answer: text, mode, list file, cursor, budget
-unfoldable pub choice_of : List ℕ → Mode → List ℕ → ℕ → Choice
+unfoldable pub choice_of : List ℕ → Mode → List ℕ → ℕ → Result Choice Refusal
 choice_of s m f b = chosen_in (problem_of s m f) b
 
-unfoldable pub listing_of : List ℕ → Mode → List ℕ → ℕ → ℕ → Listing
+unfoldable pub listing_of : List ℕ → Mode → List ℕ → ℕ → ℕ → Result Listing Refusal
 listing_of s m f c b = listed_in (problem_of s m f) c b
 
 -- where the found stand in the list; or a refusal, as of a problem
@@ -133,9 +124,9 @@ unfoldable pub places_of : List ℕ → Mode → List ℕ → Places
 places_of s m f = of_text unplaced (place_of f s) f (parse_of s m)
 
 -- what is answered, and what the lent buffer then holds: a refusal leaves it as it was
-unfoldable pub found_answer : Places → Finding
-found_answer (unplaced r) = F.Refused r
-found_answer (placed ps) = F.Count (length ps)
+unfoldable pub found_answer : Places → Result ℕ Refusal
+found_answer (unplaced r) = Err r
+found_answer (placed ps) = Ok (length ps)
 
 unfoldable pub found_buffer : Places → List ℕ → List ℕ
 found_buffer (unplaced r) out = out
