@@ -1,15 +1,13 @@
 -- The number that an answer or a refusal becomes, and what a parse becomes. Document 01: "A refusal carries nothing but its number and the table's last column"; "If an
 -- answer is an enum, a definition gives this paper's number and values for each of its cases". From bit 0 on: the refusal's number, 0 for an answer, 255 where what is
 -- lent is too small. From bit 8 on: of a refusal its set, and from bit 16 on its span, or from bit 8 on its number; of an answer its form, and from bit 16 on its value.
-use Rattle.std.specs.Prelude.{ℕ, ◌+◌, ◌*◌, ◌-◌, cond, List, leb, ltb, length, take}
+use Rattle.std.specs.Prelude.{ℕ, ◌+◌, ◌*◌, ◌-◌, cond, List, leb, ltb, length, take, Ok, Err}
 use Rattle.text.specs.Overlay.{overlay}
 use Rattle.refusal.specs.Refused.{number_of, column_of, set_of}
 use Rattle.refusal.specs.declared.Refusal.{Refusal}
 use Rattle.refusal.specs.declared.Column.{Column}
 use Rattle.refusal.specs.declared.Column.TheVariants.{Nothing, Place, PlaceAndSet, Number}
-use Rattle.grammar.specs.declared.Outcome.{Outcome}
-use Rattle.grammar.specs.declared.Outcome.TheVariants as O
-use Rattle.grammar.specs.declared.Parsed.{Parsed}
+use Rattle.grammar.specs.Parsed.{Parsed}
 use Rattle.packed.specs.Records.{records_of}
 
 -- a number in a field that has room for less than n: the largest where it is larger
@@ -39,16 +37,14 @@ unfoldable pub small_as : ℕ → ℕ
 small_as n = 255 + clip 0x100000000000000 n * 0x100
 
 -- a parse, where so many cells are lent: how many nodes; and the cells then
-abbrev pub read_as : Outcome → ℕ → ℕ → ℕ
-read_as O.Read n room = cond (leb (n * 16) room) (answered_as 0 n) (small_as n)
-read_as (O.Refused r) n room = refused_as r
-
-abbrev pub read_cells : Outcome → List ℕ → List ℕ → List ℕ
-read_cells O.Read p b = cond (leb (length p) (length b)) (overlay 0 p b) b
-read_cells (O.Refused r) p b = b
-
 unfoldable pub parse_as : Parsed → List ℕ → ℕ
-parse_as p b = read_as p.outcome p.count (length b)
+parse_as (Ok p) b = cond (leb (p.count * 16) (length b)) (answered_as 0 p.count) (small_as p.count)
+parse_as (Err r) b = refused_as r
+
+-- records in the front of what is lent, if it has room for them
+abbrev pub room_for : List ℕ → List ℕ → List ℕ
+room_for p b = cond (leb (length p) (length b)) (overlay 0 p b) b
 
 unfoldable pub parse_cells : Parsed → List ℕ → List ℕ
-parse_cells p b = read_cells p.outcome (records_of (take p.count p.nodes)) b
+parse_cells (Ok p) b = room_for (records_of (take p.count p.nodes)) b
+parse_cells (Err r) b = b

@@ -5,8 +5,8 @@ use Rattle.text.specs.Overlay.{overlay}
 use Rattle.refusal.specs.declared.Span.{Span}
 use Rattle.refusal.specs.declared.Refusal.{Refusal}
 use Rattle.lexer.specs.declared.Token.{Token}
-use Rattle.grammar.specs.declared.Kind.{Kind}
-use Rattle.packed.specs.Records.{token_cells, kind_cells}
+use Rattle.grammar.specs.declared.Node.{Node}
+use Rattle.packed.specs.Records.{token_cells, node_cells, records_of}
 use Rattle.packed.specs.Packed.{places, refused_as, answered_as, small_as}
 
 two_places_one : (a b : ℕ) → One (places a b)
@@ -24,8 +24,8 @@ small_one n = one (small_as n)
 of_token_one : (t : Token) (sp : Span) (n : ℕ) → One (token_cells t sp n)
 of_token_one t sp n = one (token_cells t sp n)
 
-of_kind_one : (k : Kind) → One (kind_cells k)
-of_kind_one k = one (kind_cells k)
+of_node_one : (x : Node) → One (node_cells x)
+of_node_one x = one (node_cells x)
 
-put_one : (at : ℕ) (p b : List ℕ) → One (overlay at p b)
-put_one at p b = one (overlay at p b)
+put_nodes_one : (q : List Node) (b : List ℕ) → One (overlay 0 (records_of q) b)
+put_nodes_one q b = one (overlay 0 (records_of q) b)

@@ -1,21 +1,22 @@
 // Tokens and nodes as records of 16-bit cells.
-ghost use Rattle.std.specs.Prelude.{◌≡◌, ◌+◌, ◌≤◌, length};
+ghost use Rattle.std.specs.Prelude.{◌≡◌, ◌+◌, ◌*◌, ◌≤◌, length};
 ghost use Rattle.text.specs.Overlay.{overlay};
-ghost use Rattle.packed.specs.Records.{cell, named_token, token_cells, reference_cells, licence_cells, addition_cells, leaf_cells, kind_cells};
+ghost use Rattle.packed.specs.Records.{cell, named_token, token_cells, reference_cells, licence_cells, addition_cells, leaf_cells, node_cells, records_of};
 
-use grammar::{Addition, Kind, Leaf, Licence, Part, Range};
-use lexer::{Doc, Token};
+use grammar::{Addition, Leaf, Licence, Node, Part, Range};
+use lexer::Token;
 use refusal::Span;
 
 // A place as a cell holds it.
+#[tactic(auto, unfolding(crate::specs::Records::cell))]
 fn cell_of(x: usize) -> u16
     ensures { result ≡ cell x }
 {
-    if x < 0x1_0000 { x as u16 } else { 0xffff }
+    u16::try_from(x).unwrap_or(u16::MAX)
 }
 
 // A token of a kind that has a name, with a document part or with none.
-fn named(kind: u16, doc: Doc, name: Span, span: Span, next: usize) -> [u16; 10]
+fn named(kind: u16, doc: Option<Span>, name: Span, span: Span, next: usize) -> [u16; 10]
     ensures { result ≡ named_token kind doc name span next }
 {
     let a = cell_of(name.start);
@@ -24,8 +25,8 @@ fn named(kind: u16, doc: Doc, name: Span, span: Span, next: usize) -> [u16; 10]
     let end = cell_of(span.end);
     let after = cell_of(next);
     match doc {
-        Doc::Absent => [kind, 0, 0, 0, 0, a, e, start, end, after],
-        Doc::Part(d) => [
+        None => [kind, 0, 0, 0, 0, a, e, start, end, after],
+        Some(d) => [
             kind,
             0,
             1,
@@ -41,6 +42,7 @@ fn named(kind: u16, doc: Doc, name: Span, span: Span, next: usize) -> [u16; 10]
 }
 
 // The ten cells of a token.
+#[tactic(auto, unfolding(crate::specs::Records::cell))]
 pub fn of_token(token: Token, span: Span, next: usize) -> [u16; 10]
     ensures { result ≡ token_cells token span next }
 {
@@ -58,7 +60,7 @@ pub fn of_token(token: Token, span: Span, next: usize) -> [u16; 10]
         Token::Exception(k) => [8, cell_of(k), 0, 0, 0, 0, 0, start, end, after],
         Token::LicenseRef { doc, name } => named(9, doc, name, span, next),
         Token::AdditionRef { doc, name } => named(10, doc, name, span, next),
-        Token::Unknown(name) => named(11, Doc::Absent, name, span, next),
+        Token::Unknown(name) => named(11, None, name, span, next),
     }
 }
 
@@ -67,8 +69,8 @@ fn of_reference(without: u16, with: u16, doc: Part, name: Range) -> [u16; 6]
     ensures { result ≡ reference_cells without with doc name }
 {
     match doc {
-        Part::Absent => [without, 0, 0, 0, name.start, name.end],
-        Part::At(d) => [with, 0, d.start, d.end, name.start, name.end],
+        None => [without, 0, 0, 0, name.start, name.end],
+        Some(d) => [with, 0, d.start, d.end, name.start, name.end],
     }
 }
 
@@ -107,25 +109,32 @@ fn of_leaf(l: Leaf) -> [u16; 16]
 }
 
 // The sixteen cells of a node.
-pub fn of_kind(k: Kind) -> [u16; 16]
-    ensures { result ≡ kind_cells k }
+pub fn of_node(node: Node) -> [u16; 16]
+    ensures { result ≡ node_cells node }
 {
-    match k {
-        Kind::Blank => [0, 0, 0, 0, 0, 0, 0, 0, 0, 0, 0, 0, 0, 0, 0, 0],
-        Kind::Leaf(l) => of_leaf(l),
-        Kind::And => [2, 0, 0, 0, 0, 0, 0, 0, 0, 0, 0, 0, 0, 0, 0, 0],
-        Kind::Or => [3, 0, 0, 0, 0, 0, 0, 0, 0, 0, 0, 0, 0, 0, 0, 0],
+    match node {
+        Node::Blank => [0; 16],
+        Node::Leaf(l) => of_leaf(l),
+        Node::And => [2, 0, 0, 0, 0, 0, 0, 0, 0, 0, 0, 0, 0, 0, 0, 0],
+        Node::Or => [3, 0, 0, 0, 0, 0, 0, 0, 0, 0, 0, 0, 0, 0, 0, 0],
     }
 }
 
-// Writes cells over those from a place on, where there is room.
-pub fn put(out: &mut [u16], at: usize, p: &[u16])
-    requires { at + length p.now ≤ length out.old }
-    ensures { out.new ≡ overlay at p.now out.old }
+// Writes the cells of a node over those from a place on, where there is room.
+fn put_node(node: Node, out: &mut [u16], at: usize)
+    requires { at + 16 ≤ length out.old }
+    ensures { out.new ≡ overlay at (node_cells node) out.old }
 {
-    let mut i = 0;
-    while i < p.len() {
-        out[at + i] = p[i];
-        i += 1;
+    let p = of_node(node);
+    text::put(out, at, &p);
+}
+
+// Writes the cells of nodes over the first ones, where there is room.
+pub fn put_nodes(nodes: &[Node], out: &mut [u16])
+    requires { length nodes.now * 16 ≤ length out.old }
+    ensures { out.new ≡ overlay 0 (records_of nodes.now) out.old }
+{
+    for (i, node) in nodes.iter().enumerate() {
+        put_node(*node, out, i * 16);
     }
 }

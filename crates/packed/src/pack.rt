@@ -12,14 +12,16 @@ const VALUE: u64 = 0x1_0000_0000_0000;
 const NUMBER: u64 = 0x100_0000_0000_0000;
 
 // A number in a field that has room for less than n: the largest where it is larger.
+#[tactic(auto, unfolding(crate::specs::Packed::clip))]
 fn clipped(n: u64, x: u64) -> u64
     requires { 0 < n }
     ensures { (result ≡ clip n x) × (result < n) }
 {
-    if x < n { x } else { n - 1 }
+    x.min(n - 1)
 }
 
 // Two places, behind the lowest 16 bits.
+#[tactic(auto, unfolding(crate::specs::Packed::places))]
 pub fn two_places(a: usize, b: usize) -> u64
     ensures { (result ≡ places a b) × (result + 0x10000 ≤ 0x10000000000000000) }
 {
@@ -27,6 +29,7 @@ pub fn two_places(a: usize, b: usize) -> u64
 }
 
 // A refusal: its number, its set, its span or number.
+#[tactic(auto, unfolding(crate::specs::Packed::refused_as))]
 pub fn refused(r: Refusal) -> u64
     ensures { result ≡ refused_as r }
 {
@@ -42,6 +45,7 @@ pub fn refused(r: Refusal) -> u64
 }
 
 // An answer of a form, with its value.
+#[tactic(auto, unfolding(crate::specs::Packed::answered_as))]
 pub fn answered(form: u8, value: usize) -> u64
     ensures { result ≡ answered_as form value }
 {
@@ -49,6 +53,7 @@ pub fn answered(form: u8, value: usize) -> u64
 }
 
 // What is lent is too small: n are needed.
+#[tactic(auto, unfolding(crate::specs::Packed::small_as))]
 pub fn small(n: usize) -> u64
     ensures { result ≡ small_as n }
 {

@@ -2,7 +2,7 @@
 // nothing there unless it answers.
 #![tactic(auto)]
 
-ghost use Rattle.std.specs.Prelude.{◌≡◌, length, ◌<◌};
+ghost use Rattle.std.specs.Prelude.{◌≡◌, length, ◌<◌, ◌≤◌, Ok};
 ghost use Rattle.names.specs.Layout.{rows, name_at};
 ghost use Rattle.mode.specs.Modes.{mode_of};
 ghost use Rattle.lexer.specs.Lex.{step_of};
@@ -14,13 +14,11 @@ ghost use Rattle.packed.specs.Packed.{parse_as, parse_cells};
 ghost use Rattle.terminal.specs.Answers.{step_as, step_record, canonical_as, list_as, entry_as, choice_as, choice_number, listing_as, listing_numbers, found_as, name_in, name_as, name_bytes};
 
 use canonical::Answer;
-use grammar::Outcome;
-use lexer::Step;
-use licensee::Listed;
-use minimize::{Choice, Finding, Listing};
+use minimize::{Choice, Listing};
 use mode::Mode;
 use names::table::{EXCEPTIONS, LICENCES};
 use packed::{cells, pack};
+use parser::Nodes;
 
 // The token at a place, as a record.
 #[unsafe(no_mangle)]
@@ -28,14 +26,27 @@ pub extern "C" fn tasgilfrem_step(text: &[u8], mode: u8, place: usize, out: &mut
     ensures { (result ≡ step_as (step_of text.now (mode_of mode) place))
         × (out.new ≡ step_record (step_of text.now (mode_of mode) place) out.old) }
 {
-    match reader::step_at(text, Mode::of(mode), place) {
-        Step::Got { token, span, next } => {
-            *out = cells::of_token(token, span, next.at);
+    match reader::step_at(text, Mode::from(mode), place) {
+        Ok(Some(got)) => {
+            *out = cells::of_token(got.token, got.span, got.next.at);
             pack::answered(1, 0)
         }
-        Step::Done => pack::answered(0, 0),
-        Step::Refused(r) => pack::refused(r),
+        Ok(None) => pack::answered(0, 0),
+        Err(r) => pack::refused(r),
     }
+}
+
+// Writes the nodes of a text that reads to the front of what is lent.
+fn put_nodes(p: &Nodes, out: &mut [u16]) -> u64
+    requires { (p.now.count ≤ 127) × (length p.now.nodes ≡ 127) }
+    ensures { (result ≡ parse_as (Ok p.now) out.old) × (out.new ≡ parse_cells (Ok p.now) out.old) }
+{
+    let count = p.count;
+    if out.len() < count * 16 {
+        return pack::small(count);
+    }
+    cells::put_nodes(&p.nodes[..count], out);
+    pack::answered(0, count)
 }
 
 // The nodes of a text in postfix, sixteen cells each, in the front of what is lent.
@@ -44,24 +55,11 @@ pub extern "C" fn tasgilfrem_parse(text: &[u8], mode: u8, out: &mut [u16]) -> u6
     ensures { (result ≡ parse_as (answer_of (parse_of text.now (mode_of mode))) out.old)
         × (out.new ≡ parse_cells (answer_of (parse_of text.now (mode_of mode))) out.old) }
 {
-    let p = parser::parse(text, Mode::of(mode));
-    let outcome = p.outcome;
-    if let Outcome::Refused(r) = outcome {
-        return pack::refused(r);
+    // a reference, so that the nodes are not copied out of the answer
+    match &parser::parse(text, Mode::from(mode)) {
+        Ok(p) => put_nodes(p, out),
+        Err(r) => pack::refused(*r),
     }
-    let count = p.count;
-    if out.len() < count * 16 {
-        return pack::small(count);
-    }
-    let mut i = 0;
-    while i < count {
-        let node = p.nodes[i];
-        let kind = node.kind;
-        let record = cells::of_kind(kind);
-        cells::put(out, i * 16, &record);
-        i += 1;
-    }
-    pack::answered(0, count)
 }
 
 // The canonical text, in the front of what is lent.
@@ -71,9 +69,9 @@ pub extern "C" fn tasgilfrem_canonical(text: &[u8], out: &mut [u8]) -> u64
         × (out.new ≡ Canonical.buffer_of text.now out.old (Canonical.canonical_of text.now)) }
 {
     match canonical::canonical(text, out) {
-        Answer::Unchanged => pack::answered(0, 0),
-        Answer::Written(n) => pack::answered(1, n),
-        Answer::Refused(r) => pack::refused(r),
+        Ok(Answer::Unchanged) => pack::answered(0, 0),
+        Ok(Answer::Written(n)) => pack::answered(1, n),
+        Err(r) => pack::refused(r),
     }
 }
 
@@ -83,8 +81,8 @@ pub extern "C" fn tasgilfrem_list(file: &[u8]) -> u64
     ensures { result ≡ list_as (checked_of (list_of file.now)) }
 {
     match licensee::check(file) {
-        Listed::Valid(n) => pack::answered(0, n),
-        Listed::Refused(r) => pack::refused(r),
+        Ok(n) => pack::answered(0, n),
+        Err(r) => pack::refused(r),
     }
 }
 
@@ -113,16 +111,16 @@ pub extern "C" fn tasgilfrem_choice(
     ensures { (result ≡ choice_as (choice_of text.now (mode_of mode) file.now budget))
         × (out.new ≡ choice_number (choice_of text.now (mode_of mode) file.now budget) out.old) }
 {
-    match minimize::choice(text, Mode::of(mode), file, budget) {
-        Choice::Mask(m) => {
+    match minimize::choice(text, Mode::from(mode), file, budget) {
+        Ok(Choice::Mask(m)) => {
             *out = m;
             pack::answered(0, 0)
         }
-        Choice::Paused(p) => {
+        Ok(Choice::Paused(p)) => {
             *out = p;
             pack::answered(1, 0)
         }
-        Choice::Refused(r) => pack::refused(r),
+        Err(r) => pack::refused(r),
     }
 }
 
@@ -139,20 +137,20 @@ pub extern "C" fn tasgilfrem_listing(
     ensures { (result ≡ listing_as (listing_of text.now (mode_of mode) file.now cursor budget))
         × (out.new ≡ listing_numbers (listing_of text.now (mode_of mode) file.now cursor budget) out.old) }
 {
-    match minimize::listing(text, Mode::of(mode), file, cursor, budget) {
-        Listing::Found { mask, next } => {
+    match minimize::listing(text, Mode::from(mode), file, cursor, budget) {
+        Ok(Listing::Found { mask, next }) => {
             *out = [mask, next];
             pack::answered(0, 0)
         }
-        Listing::Paused(next) => {
+        Ok(Listing::Paused(next)) => {
             *out = [0, next];
             pack::answered(1, 0)
         }
-        Listing::Finished(next) => {
+        Ok(Listing::Finished(next)) => {
             *out = [0, next];
             pack::answered(2, 0)
         }
-        Listing::Refused(r) => pack::refused(r),
+        Err(r) => pack::refused(r),
     }
 }
 
@@ -162,9 +160,9 @@ pub extern "C" fn tasgilfrem_found(text: &[u8], mode: u8, file: &[u8], out: &mut
     ensures { (result ≡ found_as (found_answer (places_of text.now (mode_of mode) file.now)))
         × (out.new ≡ found_buffer (places_of text.now (mode_of mode) file.now) out.old) }
 {
-    match minimize::found(text, Mode::of(mode), file, out) {
-        Finding::Count(k) => pack::answered(0, k),
-        Finding::Refused(r) => pack::refused(r),
+    match minimize::found(text, Mode::from(mode), file, out) {
+        Ok(k) => pack::answered(0, k),
+        Err(r) => pack::refused(r),
     }
 }
 
@@ -173,12 +171,11 @@ fn put_name(k: usize, out: &mut [u8]) -> u64
     requires { k < length rows }
     ensures { (result ≡ name_as (name_at k) out.old) × (out.new ≡ name_bytes (name_at k) out.old) }
 {
-    let t = names::table::table();
-    let n = names::name_len(&t, k);
+    let n = names::name_len(k);
     if out.len() < n {
         return pack::small(n);
     }
-    names::put_name(&t, k, out, 0);
+    names::put_name(k, out, 0);
     pack::answered(0, n)
 }
 

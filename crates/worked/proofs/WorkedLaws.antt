@@ -17,7 +17,8 @@ use Rattle.licensee.specs.Offers.{name_in, body_of, at16, offset, size, placed, 
 use Rattle.licensee.specs.Satisfies.{same_range, satisfies, equals}
 use Rattle.masks.specs.Masks as Masks
 use Rattle.masks.specs.Masks.{has, spare, minimal, examined, stopped, searched, settled, chosen}
-use Rattle.minimize.specs.Minimize.{some_of, found_after, member, tree_of, wanted, found_of, satisfied, limited, problem_of, choice_of, listing_of}
+use Rattle.std.specs.List.{list_any}
+use Rattle.minimize.specs.Minimize.{found_after, member, tree_of, wanted, found_of, satisfied, limited, problem_of, choice_of, listing_of}
 use Rattle.worked.specs.Worked.{Question, Reply, name_of, added_of, shown, of_result, of_answer, of_choice, of_listing, lent, answer, lic, at, six, either_way, doc, bodies, table}
 
 worked : map (λ (w : Question × Reply). answer w.0) table ≡ map (λ (w : Question × Reply). w.1) table
@@ -28,5 +29,5 @@ unfolding
     stands_for longest imprecise_of listed exceptions imprecise run_end ref_end operator_of ref_of documented imprecise_at unknown_of word_of run_of
     mark_of scan_of check_of walked tokens_of name_start gnu_move plus_move move_of tail_of and_level parse_of alone plussed canon_from canonical_of answer_of
     buffer_of name_in body_of at16 offset size placed offer_of entries_from contents list_of same_range satisfies equals has spare minimal examined
-    stopped searched settled chosen Masks.listed some_of found_after member tree_of wanted found_of satisfied limited problem_of choice_of listing_of
+    stopped searched settled chosen Masks.listed found_after member tree_of wanted found_of satisfied limited problem_of choice_of listing_of
 worked = refl

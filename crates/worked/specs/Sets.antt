@@ -1,6 +1,8 @@
 -- The worked text of document 01 that speaks of choice and listing, and questions at the edges of its rules: one table, computed, under one claim.
 -- A question is mode, text, list file, and the budget, or the cursor and the budget, or neither; a refusal is its number and last column.
-use Rattle.std.specs.Prelude.{ℕ, ◌^◌, ◌≡◌, refl, List, [], ◌∷◌, ◌++◌, map}
+use Rattle.std.specs.Prelude.{ℕ, ◌^◌, ◌≡◌, refl, List, [], ◌∷◌, ◌++◌, map, Ok, Err}
+use Rattle.std.specs.Prelude as Std
+use Rattle.refusal.specs.declared.Refusal.{Refusal}
 use Prim.Native.String.{String}
 use Rattle.text.specs.Text.{ascii, begins, same, ends, within, part}
 use Rattle.text.specs.Overlay.{overlay}
@@ -45,10 +47,8 @@ use Rattle.masks.specs.declared.Choice.{Choice}
 use Rattle.masks.specs.declared.Choice.TheVariants as C
 use Rattle.masks.specs.declared.Listing.{Listing}
 use Rattle.masks.specs.declared.Listing.TheVariants as L
-use Rattle.minimize.specs.declared.Finding.{Finding}
-use Rattle.minimize.specs.declared.Finding.TheVariants as F
+use Rattle.std.specs.List.{list_any}
 use Rattle.minimize.specs.Minimize.{
-  some_of,
   found_after,
   found_at,
   member,
@@ -83,20 +83,20 @@ data Answer : Type 0 where
   places : ℕ → List ℕ → Answer
   no : ℕ → Column → Answer
 
-of_choice : Choice → Answer
-of_choice (C.Mask m) = mask m
-of_choice (C.Paused n) = paused n
-of_choice (C.Refused r) = no (number_of r) (column_of r)
+of_choice : Std.Result Choice Refusal → Answer
+of_choice (Ok (C.Mask m)) = mask m
+of_choice (Ok (C.Paused n)) = paused n
+of_choice (Err r) = no (number_of r) (column_of r)
 
-of_listing : Listing → Answer
-of_listing (L.Found m n) = found m n
-of_listing (L.Paused n) = paused n
-of_listing (L.Finished n) = finished n
-of_listing (L.Refused r) = no (number_of r) (column_of r)
+of_listing : Std.Result Listing Refusal → Answer
+of_listing (Ok (L.Found m n)) = found m n
+of_listing (Ok (L.Paused n)) = paused n
+of_listing (Ok (L.Finished n)) = finished n
+of_listing (Err r) = no (number_of r) (column_of r)
 
-of_finding : Finding → List ℕ → Answer
-of_finding (F.Count k) out = places k out
-of_finding (F.Refused r) out = no (number_of r) (column_of r)
+of_finding : Std.Result ℕ Refusal → List ℕ → Answer
+of_finding (Ok k) out = places k out
+of_finding (Err r) out = no (number_of r) (column_of r)
 
 of_places : Places → Answer
 of_places p = of_finding (found_answer p) (found_buffer p (255 ∷ 255 ∷ 255 ∷ 255 ∷ []))
@@ -225,6 +225,6 @@ unfolding
     seek lookup licence_texts imprecise_texts licence_of exception_of bytes_at licence_name deprecated_of gnu_of is_later stem later_of stands_for longest
     imprecise_of listed exceptions imprecise run_end ref_end operator_of ref_of documented imprecise_at unknown_of word_of run_of mark_of scan_of check_of
     walked tokens_of name_start gnu_move plus_move move_of tail_of and_level parse_of name_in body_of at16 offset size placed offer_of entries_from contents
-    list_of same_range satisfies equals has spare minimal examined stopped searched settled chosen Masks.listed some_of found_after found_at member tree_of wanted
+    list_of same_range satisfies equals has spare minimal examined stopped searched settled chosen Masks.listed found_after found_at member tree_of wanted
     found_of places_in satisfied limited problem_of choice_of listing_of few_places places_of found_answer found_buffer
 worked = refl

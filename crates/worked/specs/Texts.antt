@@ -1,6 +1,6 @@
 -- The worked texts of document 01 that speak of canonical text, and texts at the edges of its rules: one table, computed, under one claim. A
 -- question is the size of the lent buffer and the text; a refusal is its number and last column.
-use Rattle.std.specs.Prelude.{ℕ, zero, suc, ◌≡◌, refl, List, [], ◌∷◌, ◌++◌, map, replicate}
+use Rattle.std.specs.Prelude.{ℕ, zero, suc, ◌≡◌, refl, List, [], ◌∷◌, ◌++◌, map, replicate, Result, Ok, Err}
 use Prim.Native.String.{String}
 use Rattle.text.specs.Text.{ascii, begins, same, ends, within, part}
 use Rattle.text.specs.Overlay.{overlay}
@@ -11,12 +11,13 @@ use Rattle.names.specs.Listed.{listed, exceptions, imprecise}
 use Rattle.names.specs.Lookup.{seek, lookup, licence_texts, imprecise_texts, licence_of, exception_of, bytes_at, licence_name, exception_name, gnu_of, is_bare, stem, stands_for, longest, imprecise_of}
 use Rattle.refusal.specs.Refused.{span, number_of, column_of}
 use Rattle.refusal.specs.declared.Expected.TheVariants as E
+use Rattle.refusal.specs.declared.Refusal.{Refusal}
 use Rattle.refusal.specs.declared.Column.{Column}
 use Rattle.refusal.specs.declared.Column.TheVariants.{Place, PlaceAndSet, Number}
 use Rattle.lexer.specs.Lex.{run_end, ref_end, operator_of, ref_of, documented, imprecise_at, unknown_of, word_of, run_of, mark_of, scan_of, check_of}
 use Rattle.lexer.specs.Tokens.{walked, tokens_of}
 use Rattle.canonical.specs.declared.Answer.{Answer}
-use Rattle.canonical.specs.declared.Answer.TheVariants.{Unchanged, Written, Refused}
+use Rattle.canonical.specs.declared.Answer.TheVariants.{Unchanged, Written}
 use Rattle.canonical.specs.Canonical.{alone, plussed, canon_from, canonical_of, answer_of, buffer_of}
 
 -- an answer in document 01's words, with the whole of the lent buffer
@@ -25,10 +26,10 @@ data Shown : Type 0 where
   written : ℕ → List ℕ → Shown
   no : ℕ → Column → List ℕ → Shown
 
-shown : Answer → List ℕ → Shown
-shown Unchanged b = unchanged b
-shown (Written n) b = written n b
-shown (Refused r) b = no (number_of r) (column_of r) b
+shown : Result Answer Refusal → List ℕ → Shown
+shown (Ok Unchanged) b = unchanged b
+shown (Ok (Written n)) b = written n b
+shown (Err r) b = no (number_of r) (column_of r) b
 
 -- a lent buffer of n bytes, each 0xAA
 lent : ℕ → List ℕ

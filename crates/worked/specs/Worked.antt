@@ -1,25 +1,25 @@
 -- Document 01's worked texts that are marked P, all of them and no others: one table, computed, under one claim. Answers are in document 01's words: a
 -- listed name is its bytes, a reference its ranges, a refusal its number and last column. A text for which document 01 names no mode is asked in STRICT
 -- and in LAX. The worked texts without a P, and questions at the edges of the rules, stand in the tables of the crates below.
-use Rattle.std.specs.Prelude.{ℕ, Bool, false, List, [], ◌∷◌, ◌++◌, map, replicate}
+use Rattle.grammar.specs.declared.Range.{Range}
+use Rattle.std.specs.Prelude.{ℕ, Bool, false, List, [], ◌∷◌, ◌++◌, map, replicate, Option, None, Ok, Err}
+use Rattle.std.specs.Prelude as Std
 use Prim.Native.String.{String}
 use Rattle.text.specs.Text.{ascii}
 use Rattle.names.specs.Lookup.{licence_name, exception_name}
 use Rattle.refusal.specs.Refused.{span, number_of, column_of}
 use Rattle.refusal.specs.declared.Expected.{Expected}
 use Rattle.refusal.specs.declared.Expected.TheVariants as E
+use Rattle.refusal.specs.declared.Refusal.{Refusal}
 use Rattle.refusal.specs.declared.Column.{Column}
 use Rattle.refusal.specs.declared.Column.TheVariants.{Place, PlaceAndSet}
 use Rattle.mode.specs.declared.Mode.{Mode}
 use Rattle.mode.specs.Modes.{strict, lax}
-use Rattle.grammar.specs.declared.Part.{Part}
-use Rattle.grammar.specs.declared.Part.TheVariants as P
 use Rattle.grammar.specs.declared.Licence.{Licence}
 use Rattle.grammar.specs.declared.Licence.TheVariants as L
 use Rattle.grammar.specs.declared.Addition.{Addition}
 use Rattle.grammar.specs.declared.Addition.TheVariants as A
-use Rattle.grammar.specs.declared.Kind.{Kind}
-use Rattle.grammar.specs.declared.Kind.TheVariants as K
+use Rattle.grammar.specs.declared.Node.TheVariants as K
 use Rattle.grammar.specs.declared.Node.{Node}
 use Rattle.grammar.specs.Grammar.{Result, got, refused, parse_of}
 use Rattle.canonical.specs.declared.Answer.{Answer}
@@ -42,7 +42,7 @@ pub data Question : Type 0 where
 pub data Name : Type 0 where
   none : Name
   listed_as : List ℕ → Name
-  ref : Part → ℕ → ℕ → Name
+  ref : Option Range → ℕ → ℕ → Name
 
 -- a node: a leaf by its licence, its plus flag, its addition and its span
 pub data Shown : Type 0 where
@@ -73,31 +73,31 @@ added_of A.Nothing = none
 added_of (A.Listed k) = listed_as (exception_name k)
 added_of (A.Reference d n) = ref d n.start n.end
 
-unfoldable pub shown : Kind → Shown
+unfoldable pub shown : Node → Shown
 shown K.Blank = blank
 shown (K.Leaf l) = leaf (name_of l.licence) l.plus (added_of l.addition) l.span.start l.span.end
 shown K.And = and
 shown K.Or = or
 
 unfoldable pub of_result : Result → Reply
-of_result (got q b ts) = read (map (λ (n : Node). shown n.kind) q)
+of_result (got q b ts) = read (map shown q)
 of_result (refused r) = no (number_of r) (column_of r)
 
-unfoldable pub of_answer : Answer → List ℕ → Reply
-of_answer W.Unchanged b = unchanged b
-of_answer (W.Written n) b = written n b
-of_answer (W.Refused r) b = kept (number_of r) (column_of r) b
+unfoldable pub of_answer : Std.Result Answer Refusal → List ℕ → Reply
+of_answer (Ok W.Unchanged) b = unchanged b
+of_answer (Ok (W.Written n)) b = written n b
+of_answer (Err r) b = kept (number_of r) (column_of r) b
 
-unfoldable pub of_choice : Choice → Reply
-of_choice (C.Mask m) = mask m
-of_choice (C.Paused n) = paused n
-of_choice (C.Refused r) = no (number_of r) (column_of r)
+unfoldable pub of_choice : Std.Result Choice Refusal → Reply
+of_choice (Ok (C.Mask m)) = mask m
+of_choice (Ok (C.Paused n)) = paused n
+of_choice (Err r) = no (number_of r) (column_of r)
 
-unfoldable pub of_listing : Listing → Reply
-of_listing (M.Found m n) = found m n
-of_listing (M.Paused n) = paused n
-of_listing (M.Finished n) = finished n
-of_listing (M.Refused r) = no (number_of r) (column_of r)
+unfoldable pub of_listing : Std.Result Listing Refusal → Reply
+of_listing (Ok (M.Found m n)) = found m n
+of_listing (Ok (M.Paused n)) = paused n
+of_listing (Ok (M.Finished n)) = finished n
+of_listing (Err r) = no (number_of r) (column_of r)
 
 -- a lent buffer of n bytes, each 0xAA
 unfoldable pub lent : ℕ → List ℕ
@@ -156,7 +156,7 @@ table =
     (either_way [] (at 9 0 0)
     (either_way (ascii "((MIT") (at 8 1 2)
     -- P `LicenseRef-`: one leaf, empty name, 0..11
-    (either_way (ascii "LicenseRef-") (read (leaf (ref P.Absent 11 11) false none 0 11 ∷ []))
+    (either_way (ascii "LicenseRef-") (read (leaf (ref None 11 11) false none 0 11 ∷ []))
     -- P `MIT é`: 3 at 4..6. With lone byte E9: 1 at 4..5
     (either_way (ascii "MIT " ++ (0xC3 ∷ 0xA9 ∷ [])) (at 3 4 6)
     (either_way (ascii "MIT " ++ (0xE9 ∷ [])) (at 1 4 5)
