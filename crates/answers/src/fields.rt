@@ -1,126 +1,77 @@
 // The fields of a line, which single spaces separate, and what they stand for.
-ghost use Rattle.std.specs.Prelude.{◌≤◌};
+use mode::Mode;
+
+// The highest mode: all flags.
+const ALL_FLAGS: u64 = 31;
 
 // As many bytes as a line has room for, two digits each.
-pub(crate) const MOST: usize = 32768;
+const MOST: usize = 32768;
 
-pub(crate) type Decoded = [u8; MOST];
+// What a field's text is put into.
+pub(crate) type Text = out::Out<MOST>;
 
-// What a field stands for as a number.
-#[derive(Clone, Copy)]
-pub(crate) enum Decimal {
-    Of(u64),
-    Nothing,
-}
-
-// How many spaces a line has: it has one field more.
-pub(crate) fn spaces(line: &[u8]) -> usize {
-    let mut n = 0;
-    let mut i = 0;
-    while i < line.len() {
-        if line[i] == b' ' {
-            n += 1;
-        }
-        i += 1;
-    }
-    n
-}
-
-// The place of the first space from a place on, or the line's end.
-fn space(line: &[u8], from: usize) -> usize {
-    let mut i = from;
-    while i < line.len() {
-        if line[i] == b' ' {
-            return i;
-        }
-        i += 1;
-    }
-    line.len()
-}
-
-// The place after the first space from a place on, or the line's end.
-fn after_space(line: &[u8], from: usize) -> usize {
-    let i = space(line, from);
-    if i < line.len() { i + 1 } else { i }
+// How many fields a line has.
+pub(crate) fn count(line: &[u8]) -> usize {
+    line.split(|b| *b == b' ').count()
 }
 
 // The field k of a line.
-pub(crate) fn field(line: &[u8], k: usize) -> &[u8] {
-    let mut from = 0;
-    let mut i = 0;
-    while i < k {
-        from = after_space(line, from);
-        i += 1;
-    }
-    text::cut(line, from, space(line, from))
+pub(crate) fn field(line: &[u8], k: usize) -> Option<&[u8]> {
+    line.split(|b| *b == b' ').nth(k)
 }
 
 // A number with one more digit.
-fn longer(n: u64, b: u8) -> Decimal {
-    if !text::between(b'0', b'9', b) {
-        return Decimal::Nothing;
+fn longer(n: u64, b: u8) -> Option<u64> {
+    if !b.is_ascii_digit() {
+        return None;
     }
-    let d = (b % 16) as u64;
-    if n <= (u64::MAX - d) / 10 {
-        Decimal::Of(n * 10 + d)
-    } else {
-        Decimal::Nothing
-    }
+    n.checked_mul(10)?.checked_add((b - b'0') as u64)
 }
 
-// The number that a field stands for: decimal, at most u64::MAX.
-pub(crate) fn number(s: &[u8]) -> Decimal {
-    if s.len() == 0 {
-        return Decimal::Nothing;
+// The number that the field k stands for: decimal, at most u64::MAX.
+pub(crate) fn number(line: &[u8], k: usize) -> Option<u64> {
+    let s = field(line, k)?;
+    if s.is_empty() {
+        return None;
     }
-    let mut n = 0;
-    let mut i = 0;
-    while i < s.len() {
-        let Decimal::Of(m) = longer(n, s[i]) else {
-            return Decimal::Nothing;
-        };
-        n = m;
-        i += 1;
-    }
-    Decimal::Of(n)
+    s.iter().try_fold(0, |n, b| longer(n, *b))
 }
 
-// What a hex digit stands for, 16 where it is none.
-fn digit(b: u8) -> u8 {
+// The mode of a number.
+pub(crate) fn mode(x: u64) -> Option<Mode> {
+    if x > ALL_FLAGS {
+        return None;
+    }
+    Some(Mode::from(x as u8))
+}
+
+// What a hex digit stands for.
+fn digit(b: u8) -> Option<u8> {
     match b {
-        b'0'..=b'9' => b - b'0',
-        b'a'..=b'f' => b - b'a' + 10,
-        _ => 16,
+        b'0'..=b'9' => Some(b - b'0'),
+        b'a'..=b'f' => Some(b - b'a' + 10),
+        _ => None,
     }
 }
 
-// Puts n bytes, each from two digits of s: are they digits?
-fn decode(s: &[u8], n: usize, into: &mut Decoded) -> bool
-    requires { n ≤ 32768 }
-{
-    let mut ok = true;
-    let mut i = 0;
-    while i < n {
-        let high = digit(text::byte(s, 2 * i));
-        let low = digit(text::byte(s, 2 * i + 1));
-        ok = ok & (high < 16) & (low < 16);
-        into[i] = high % 16 * 16 + low % 16;
-        i += 1;
+// Puts a byte for each pair of hex digits.
+fn decode(s: &[u8], into: &mut Text) -> Option<()> {
+    let (pairs, rest) = s.as_chunks::<2>();
+    if s.is_empty() || !rest.is_empty() || pairs.len() > MOST {
+        return None;
     }
-    ok
+    for [high, low] in pairs {
+        into.byte(digit(*high)? << 4 | digit(*low)?);
+    }
+    Some(())
 }
 
-// Puts the bytes that a field stands for, and says how many: more than MOST where it stands for none.
-pub(crate) fn bytes(s: &[u8], into: &mut Decoded) -> usize {
-    if text::equal(s, b"-") {
-        return 0;
+// The text that the field k stands for: two digits a byte, `-` where it has none.
+pub(crate) fn text<'a>(line: &[u8], k: usize, into: &'a mut Text) -> Option<&'a [u8]> {
+    let s = field(line, k)?;
+    into.clear();
+    if s != b"-".as_slice() {
+        decode(s, into)?;
     }
-    let n = s.len() / 2;
-    if n > MOST {
-        return n;
-    }
-    if (n == 0) | (s.len() % 2 == 1) {
-        return MOST + 1;
-    }
-    if decode(s, n, into) { n } else { MOST + 1 }
+    Some(into.written())
 }

@@ -16,6 +16,5 @@ mod write;
 use std::io;
 
 fn main(rt: HostRuntime) -> io::Result<()> {
-    let t = names::table::table();
-    lines::serve(&rt, &t)
+    lines::serve(&rt)
 }

@@ -1,218 +1,83 @@
-// The dispatch: how many fields a line has says what they are, and its word which question it is.
-// So a question is a function of what its fields stand for, and a test of the word among those with as many fields.
-ghost use Rattle.std.specs.Prelude.{◌≡◌};
-ghost use Rattle.names.specs.Layout.{words};
-
-use crate::fields::{Decimal, Decoded, MOST};
+// Questions: the word and the number of fields say what is asked, and of which module; a line with another word or number is no question.
+use crate::fields::{Text, field, mode, number, text};
 use crate::write::Out;
-use crate::{choices, fields, floors, lists, nodes, rewrites, tokens, write};
+use crate::{choices, fields, floors, lists, nodes, rewrites, tokens};
+
+// Where the texts of a question are put.
+#[derive(Drop)]
+pub(crate) struct Texts {
+    pub(crate) text: Text,
+    pub(crate) file: Text,
+}
 
 // WORD TEXT
-fn on_text(t: &[u64], word: &[u8], s: &[u8], out: &mut Out, at: usize) -> usize
-    requires { t.now ≡ words }
-{
-    if text::equal(word, b"list") {
-        return lists::list(s, out, at);
+fn on_text(word: &[u8], s: &[u8], out: &mut Out) -> Option<()> {
+    match word {
+        b"list" => lists::list(s, out),
+        b"utf8" => floors::utf8(s, out),
+        b"licence" => floors::licence(s, out),
+        b"exception" => floors::exception(s, out),
+        b"imprecise" => floors::imprecise(s, out),
+        _ => return None,
     }
-    if text::equal(word, b"utf8") {
-        return floors::utf8(s, out, at);
-    }
-    if text::equal(word, b"licence") {
-        return floors::licence(t, s, out, at);
-    }
-    if text::equal(word, b"exception") {
-        return floors::exception(t, s, out, at);
-    }
-    if text::equal(word, b"imprecise") {
-        return floors::imprecise(t, s, out, at);
-    }
-    write::unknown(out, at)
+    Some(())
 }
 
 // WORD NUMBER TEXT
-fn on_number_text(t: &[u64], word: &[u8], x: u64, s: &[u8], out: &mut Out, at: usize) -> usize
-    requires { t.now ≡ words }
-{
-    if text::equal(word, b"parse") {
-        return nodes::parse(t, x, s, out, at);
+fn on_number(word: &[u8], x: u64, s: &[u8], out: &mut Out) -> Option<()> {
+    match word {
+        b"parse" => nodes::parse(mode(x)?, s, out),
+        b"canonical" => rewrites::canonical(x, s, out)?,
+        b"entry" => lists::entry(x, s, out),
+        b"char" => floors::char(x, s, out),
+        b"past" => floors::past(x, s, out),
+        b"inside" => floors::inside(x, s, out),
+        _ => return None,
     }
-    if text::equal(word, b"canonical") {
-        return rewrites::canonical(x, s, out, at);
-    }
-    if text::equal(word, b"entry") {
-        return lists::entry(x, s, out, at);
-    }
-    if text::equal(word, b"char") {
-        return floors::char(x, s, out, at);
-    }
-    if text::equal(word, b"past") {
-        return floors::past(x, s, out, at);
-    }
-    if text::equal(word, b"inside") {
-        return floors::inside(x, s, out, at);
-    }
-    write::unknown(out, at)
+    Some(())
 }
 
-// WORD NUMBER NUMBER TEXT
-fn on_numbers_text(
-    t: &[u64],
-    word: &[u8],
-    x: u64,
-    y: u64,
-    s: &[u8],
-    out: &mut Out,
-    at: usize,
-) -> usize
-    requires { t.now ≡ words }
-{
-    if text::equal(word, b"step") {
-        return tokens::step(t, x, y, s, out, at);
-    }
-    write::unknown(out, at)
-}
-
-fn with_text(t: &[u64], line: &[u8], bytes: &mut Decoded, out: &mut Out, at: usize) -> usize
-    requires { t.now ≡ words }
-{
-    let n = fields::bytes(fields::field(line, 1), bytes);
-    if n > MOST {
-        return write::unknown(out, at);
-    }
-    on_text(t, fields::field(line, 0), text::cut(bytes, 0, n), out, at)
-}
-
-fn with_number_text(t: &[u64], line: &[u8], bytes: &mut Decoded, out: &mut Out, at: usize) -> usize
-    requires { t.now ≡ words }
-{
-    let Decimal::Of(x) = fields::number(fields::field(line, 1)) else {
-        return write::unknown(out, at);
-    };
-    let n = fields::bytes(fields::field(line, 2), bytes);
-    if n > MOST {
-        return write::unknown(out, at);
-    }
-    on_number_text(
-        t,
-        fields::field(line, 0),
-        x,
-        text::cut(bytes, 0, n),
-        out,
-        at,
-    )
-}
-
-fn with_numbers_text(t: &[u64], line: &[u8], bytes: &mut Decoded, out: &mut Out, at: usize) -> usize
-    requires { t.now ≡ words }
-{
-    let Decimal::Of(x) = fields::number(fields::field(line, 1)) else {
-        return write::unknown(out, at);
-    };
-    let Decimal::Of(y) = fields::number(fields::field(line, 2)) else {
-        return write::unknown(out, at);
-    };
-    let n = fields::bytes(fields::field(line, 3), bytes);
-    if n > MOST {
-        return write::unknown(out, at);
-    }
-    on_numbers_text(
-        t,
-        fields::field(line, 0),
-        x,
-        y,
-        text::cut(bytes, 0, n),
-        out,
-        at,
-    )
+// step MODE PLACE TEXT
+fn step(line: &[u8], texts: &mut Texts, out: &mut Out) -> Option<()> {
+    let mode = mode(number(line, 1)?)?;
+    let place = number(line, 2)?;
+    let s = text(line, 3, &mut texts.text)?;
+    tokens::step(mode, place, s, out);
+    Some(())
 }
 
 // choice MODE BUDGET TEXT FILE
-fn with_choice(
-    line: &[u8],
-    bytes: &mut Decoded,
-    file: &mut Decoded,
-    out: &mut Out,
-    at: usize,
-) -> usize {
-    if !text::equal(fields::field(line, 0), b"choice") {
-        return write::unknown(out, at);
-    }
-    let Decimal::Of(mode) = fields::number(fields::field(line, 1)) else {
-        return write::unknown(out, at);
-    };
-    let Decimal::Of(budget) = fields::number(fields::field(line, 2)) else {
-        return write::unknown(out, at);
-    };
-    let n = fields::bytes(fields::field(line, 3), bytes);
-    let k = fields::bytes(fields::field(line, 4), file);
-    if (n > MOST) | (k > MOST) {
-        return write::unknown(out, at);
-    }
-    choices::choice(
-        mode,
-        budget,
-        text::cut(bytes, 0, n),
-        text::cut(file, 0, k),
-        out,
-        at,
-    )
+fn choice(line: &[u8], texts: &mut Texts, out: &mut Out) -> Option<()> {
+    let mode = mode(number(line, 1)?)?;
+    let budget = number(line, 2)?;
+    let s = text(line, 3, &mut texts.text)?;
+    let file = text(line, 4, &mut texts.file)?;
+    choices::choice(mode, budget, s, file, out);
+    Some(())
 }
 
 // listing MODE CURSOR BUDGET TEXT FILE
-fn with_listing(
-    line: &[u8],
-    bytes: &mut Decoded,
-    file: &mut Decoded,
-    out: &mut Out,
-    at: usize,
-) -> usize {
-    if !text::equal(fields::field(line, 0), b"listing") {
-        return write::unknown(out, at);
-    }
-    let Decimal::Of(mode) = fields::number(fields::field(line, 1)) else {
-        return write::unknown(out, at);
-    };
-    let Decimal::Of(cursor) = fields::number(fields::field(line, 2)) else {
-        return write::unknown(out, at);
-    };
-    let Decimal::Of(budget) = fields::number(fields::field(line, 3)) else {
-        return write::unknown(out, at);
-    };
-    let n = fields::bytes(fields::field(line, 4), bytes);
-    let k = fields::bytes(fields::field(line, 5), file);
-    if (n > MOST) | (k > MOST) {
-        return write::unknown(out, at);
-    }
-    choices::listing(
-        mode,
-        cursor,
-        budget,
-        text::cut(bytes, 0, n),
-        text::cut(file, 0, k),
-        out,
-        at,
-    )
+fn listing(line: &[u8], texts: &mut Texts, out: &mut Out) -> Option<()> {
+    let mode = mode(number(line, 1)?)?;
+    let cursor = number(line, 2)?;
+    let budget = number(line, 3)?;
+    let s = text(line, 4, &mut texts.text)?;
+    let file = text(line, 5, &mut texts.file)?;
+    choices::listing(mode, cursor, budget, s, file, out);
+    Some(())
 }
 
-// A text and a list, each with a buffer of its own: a line of four spaces has one number less than one of five.
-fn with_list(n: usize, line: &[u8], bytes: &mut Decoded, out: &mut Out, at: usize) -> usize {
-    let mut file = [0u8; MOST];
-    if n == 4 {
-        return with_choice(line, bytes, &mut file, out, at);
-    }
-    with_listing(line, bytes, &mut file, out, at)
-}
-
-// Answers a line.
-pub(crate) fn answer(t: &[u64], line: &[u8], bytes: &mut Decoded, out: &mut Out, at: usize) -> usize
-    requires { t.now ≡ words }
-{
-    let n = fields::spaces(line);
-    match n {
-        1 => with_text(t, line, bytes, out, at),
-        2 => with_number_text(t, line, bytes, out, at),
-        3 => with_numbers_text(t, line, bytes, out, at),
-        4..=5 => with_list(n, line, bytes, out, at),
-        _ => write::unknown(out, at),
+// Answers a line, if it is a question.
+pub(crate) fn answer(line: &[u8], texts: &mut Texts, out: &mut Out) -> Option<()> {
+    match (field(line, 0)?, fields::count(line)) {
+        (word, 2) => on_text(word, text(line, 1, &mut texts.text)?, out),
+        (word, 3) => {
+            let x = number(line, 1)?;
+            on_number(word, x, text(line, 2, &mut texts.text)?, out)
+        }
+        (b"step", 4) => step(line, texts, out),
+        (b"choice", 5) => choice(line, texts, out),
+        (b"listing", 6) => listing(line, texts, out),
+        _ => None,
     }
 }

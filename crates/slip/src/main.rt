@@ -9,11 +9,15 @@ mod refusals;
 mod sets;
 mod show;
 mod slips;
+mod stop;
 mod tree;
 mod write;
 
+use crate::input::{Asked, Job};
+use crate::stop::Stop;
 use crate::write::Out;
-use mode::Mode;
+use itoa::Buffer;
+use refusal::Refusal;
 use std::fs::OpenOptions;
 use std::io::Write;
 use std::os::unix::fs::MetadataExt;
@@ -22,18 +26,32 @@ use std::{fs, io};
 // Where the caller is told a refusal's number, 0 where there is none: descriptor 3, if it is open for writing.
 const STATUS: &str = "/proc/self/fd/3";
 
-// What is asked: 1 for a slip, else whether the list file is right.
-fn answer(rt: &HostRuntime, asked: &[u8], out: &mut Out) -> io::Result<u64> {
-    let end = input::text_end(input::field(asked, 4));
-    let file = text::cut(asked, end, asked.len());
-    if input::field(asked, 0) != 1 {
-        return lists::check(rt, file, out);
+fn answer(rt: &HostRuntime, asked: &Asked<'_>, out: &mut Out) -> Result<(), Stop> {
+    match asked.job {
+        Job::Slip => slips::slip(rt, asked, out),
+        Job::CheckList => lists::check(rt, asked.file, out),
     }
-    let s = text::cut(asked, input::HEAD, end);
-    let mode = (input::field(asked, 1) % 32) as u8;
-    let from = input::field(asked, 2);
-    let budget = input::field(asked, 3);
-    slips::slip(rt, s, Mode::of(mode), file, from, budget, out)
+}
+
+// A refusal: of the list file, with where it is wrong, or of the text.
+fn refused(asked: &Asked<'_>, r: Refusal, out: &mut Out) {
+    match r {
+        Refusal::BadList(e) => lists::wrong(asked.file, r, e, out),
+        _ => refusals::refused(asked.text, r, out),
+    }
+}
+
+// Answers the refusal, once it is told.
+fn told(rt: &HostRuntime, asked: &Asked<'_>, out: &mut Out) -> io::Result<Option<Refusal>> {
+    match answer(rt, asked, out) {
+        Ok(()) => Ok(None),
+        Err(Stop::Refused(r)) => {
+            refused(asked, r, out);
+            write::flush(rt, out)?;
+            Ok(Some(r))
+        }
+        Err(Stop::Unwritten(e)) => Err(e),
+    }
 }
 
 // Its link shows the owner's leave to write where it is open for that.
@@ -44,19 +62,21 @@ fn has_status(rt: &HostRuntime) -> bool {
     }
 }
 
-fn tell_status(rt: &HostRuntime, number: u64, out: &mut Out) -> io::Result<()> {
+fn tell_status(rt: &HostRuntime, refused: Option<Refusal>) -> io::Result<()> {
     if !has_status(rt) {
         return Ok(());
     }
-    let k = write::decimal(out, 0, number);
+    let number = refused.map_or(0, refusal::number);
+    let mut digits = Buffer::new();
     let mut status = OpenOptions::new().append(true).open(rt, STATUS)?;
-    status.write_all(text::cut(out, 0, k))
+    status.write_all(digits.format(number).as_bytes())
 }
 
 fn main(rt: HostRuntime) -> io::Result<()> {
-    let mut asked = [0u8; input::ROOM];
-    let n = input::read(&rt, &mut asked)?;
-    let mut out = [0u8; write::ROOM];
-    let number = answer(&rt, text::cut(&asked, 0, n), &mut out)?;
-    tell_status(&rt, number, &mut out)
+    let mut room = [0u8; input::ROOM];
+    let n = input::read(&rt, &mut room)?;
+    let asked = Asked::of(text::cut(&room, 0, n));
+    let mut out = Out::new();
+    let refused = told(&rt, &asked, &mut out)?;
+    tell_status(&rt, refused)
 }

@@ -1,233 +1,139 @@
-// All that the program says, in one place: a phrase a line, by its number. Those from 1 to 21 are the sentences of the refusals.
-use crate::write;
-use crate::write::Out;
+// All that the program says, in one place.
+use refusal::{Expected, Refusal};
 
-pub(crate) const NOTHING: usize = 0;
+pub(crate) const REFUSED: &str = "refused ";
 
-pub(crate) const END: usize = 22;
+pub(crate) const COLON: &str = ": ";
 
-pub(crate) const TERM: usize = 23;
+pub(crate) const OPEN: &str = " (";
 
-pub(crate) const JOINT: usize = 24;
+pub(crate) const CLOSE: &str = ")";
 
-pub(crate) const TAIL: usize = 25;
+pub(crate) const COMMA: &str = ", ";
 
-pub(crate) const NAME: usize = 26;
+pub(crate) const EXPECTED: &str = "expected: ";
 
-pub(crate) const SUFFIXED: usize = 27;
+pub(crate) const EXPRESSION: &str = "expression  ";
 
-pub(crate) const ADDITION: usize = 28;
+pub(crate) const CANONICAL: &str = "canonical   ";
 
-pub(crate) const LICENCE: usize = 29;
+pub(crate) const AS_WRITTEN: &str = "as written";
 
-pub(crate) const REFUSED: usize = 30;
+pub(crate) const NONE: &str = "none, ";
 
-pub(crate) const COLON: usize = 31;
+pub(crate) const TREE: &str = "tree        ";
 
-pub(crate) const OPEN: usize = 32;
+pub(crate) const MARGIN: &str = "            ";
 
-pub(crate) const CLOSE: usize = 33;
+pub(crate) const AND: &str = "AND";
 
-pub(crate) const COMMA: usize = 34;
+pub(crate) const OR: &str = "OR";
 
-pub(crate) const EXPECTED: usize = 35;
+pub(crate) const LAST: &str = "└─ ";
 
-pub(crate) const EXPRESSION: usize = 36;
+pub(crate) const BRANCH: &str = "├─ ";
 
-pub(crate) const CANONICAL: usize = 37;
+pub(crate) const BAR: &str = "│  ";
 
-pub(crate) const AS_WRITTEN: usize = 38;
+pub(crate) const BLANK: &str = "   ";
 
-pub(crate) const NONE: usize = 39;
+pub(crate) const WITH: &str = " WITH ";
 
-pub(crate) const TREE: usize = 40;
+pub(crate) const WRITTEN: &str = "  (written ";
 
-pub(crate) const MARGIN: usize = 41;
+pub(crate) const FOUND: &str = "found       ";
 
-pub(crate) const AND: usize = 42;
+pub(crate) const NOT_FOUND: &str = "found       nothing";
 
-pub(crate) const OR: usize = 43;
+pub(crate) const SPACE: &str = " ";
 
-pub(crate) const LAST: usize = 44;
+pub(crate) const CHOICE: &str = "choice      ";
 
-pub(crate) const BRANCH: usize = 45;
+pub(crate) const ALSO: &str = "also        ";
 
-pub(crate) const BAR: usize = 46;
+pub(crate) const SET: &str = "set         ";
 
-pub(crate) const BLANK: usize = 47;
+pub(crate) const SETS: &str = "sets        ";
 
-pub(crate) const WITH: usize = 48;
+pub(crate) const MINIMAL_SET: &str = " minimal set, ";
 
-pub(crate) const WRITTEN: usize = 49;
+pub(crate) const MINIMAL_SETS: &str = " minimal sets, ";
 
-pub(crate) const FOUND: usize = 50;
+pub(crate) const COUNTED: &str = " examined";
 
-pub(crate) const NOT_FOUND: usize = 51;
+pub(crate) const GO_ON: &str = "; go on with --from ";
 
-pub(crate) const SPACE: usize = 52;
+pub(crate) const FINISHED: &str = ", finished";
 
-pub(crate) const CHOICE: usize = 53;
+pub(crate) const EXAMINED: &str = "examined ";
 
-pub(crate) const ALSO: usize = 54;
+pub(crate) const OF: &str = " of ";
 
-pub(crate) const SET: usize = 55;
+pub(crate) const RESUME: &str = " sets; resume with --from ";
 
-pub(crate) const SETS: usize = 56;
+pub(crate) const VALID: &str = "valid: ";
 
-pub(crate) const MINIMAL_SET: usize = 57;
+pub(crate) const ENTRY: &str = " entry";
 
-pub(crate) const MINIMAL_SETS: usize = 58;
+pub(crate) const ENTRIES: &str = " entries";
 
-pub(crate) const COUNTED: usize = 59;
+pub(crate) const GAP: &str = "  ";
 
-pub(crate) const GO_ON: usize = 60;
+pub(crate) const BAD_COUNT: &str = ": its count is over 64, or its contents are cut short";
 
-pub(crate) const FINISHED: usize = 61;
+pub(crate) const BAD_END: &str = ": bytes stand behind the last body";
 
-pub(crate) const EXAMINED: usize = 62;
+pub(crate) const BAD_ENTRY: &str = ": entry ";
 
-pub(crate) const OF: usize = 63;
+pub(crate) const BAD_OFFSET: &str = "its offset is ";
 
-pub(crate) const RESUME: usize = 64;
+pub(crate) const BEGINS: &str = ", but its body has to begin at ";
 
-pub(crate) const VALID: usize = 65;
+pub(crate) const BAD_LENGTH: &str = "its length is ";
 
-pub(crate) const ENTRY: usize = 66;
+pub(crate) const LENGTHS: &str = ", and not from 1 to 200";
 
-pub(crate) const ENTRIES: usize = 67;
+pub(crate) const BAD_BODY_END: &str = "its body goes on behind the end of the file";
 
-pub(crate) const GAP: usize = 68;
+pub(crate) const BAD_BODY: &str = "its body is not one licence with at most an addition";
 
-pub(crate) const BAD_COUNT: usize = 69;
-
-pub(crate) const BAD_END: usize = 70;
-
-pub(crate) const BAD_ENTRY: usize = 71;
-
-pub(crate) const BAD_OFFSET: usize = 72;
-
-pub(crate) const BEGINS: usize = 73;
-
-pub(crate) const BAD_LENGTH: usize = 74;
-
-pub(crate) const LENGTHS: usize = 75;
-
-pub(crate) const BAD_BODY_END: usize = 76;
-
-pub(crate) const BAD_BODY: usize = 77;
-
-// Puts a byte of the phrase k, which stands in a line.
-fn pick(out: &mut Out, at: usize, b: u8, line: usize, k: usize) -> usize {
-    if line != k {
-        return at;
+// The sentence of a refusal. Where the place of 6 is empty, the text may not end.
+pub(crate) fn sentence(r: Refusal) -> &'static str {
+    match r {
+        Refusal::NotUtf8(_) => "this byte is not UTF-8",
+        Refusal::TooLong => "the expression is longer than 1,024 bytes",
+        Refusal::InvalidCharacters(_) => "no licence, operator or parenthesis can begin here",
+        Refusal::UnknownTerm(_) => "this is no operator and no name that is known",
+        Refusal::SeparatedPlus(_) => "white space stands before the +",
+        Refusal::Unexpected(at, _) if at.start == at.end => "the expression may not end here",
+        Refusal::Unexpected(_, _) => "this may not stand here",
+        Refusal::UnopenedParens(_) => "this ) closes no parenthesis",
+        Refusal::UnclosedParens(_) => "this ( is never closed",
+        Refusal::Empty(_) => "the expression is empty",
+        Refusal::DeprecatedLicenseId(_) => "this name is deprecated (--deprecated allows it)",
+        Refusal::GnuNoPlus(_) => "a GNU name takes no + (--gnu-plus allows it)",
+        Refusal::GnuPlusWithSuffix(_) => "a name that ends in -or-later takes no +",
+        Refusal::UnknownLicense(_) => "this name has no -or-later name, and so takes no +",
+        Refusal::TooManyLeaves(_) => "this is the 65th licence, and 64 are the most",
+        Refusal::TooDeep(_) => "this is the 33rd open parenthesis, and 32 are the most",
+        Refusal::NoRoom(_) => "the canonical text does not fit",
+        Refusal::BadList(_) => "the list file is wrong",
+        Refusal::TooManyRequirements(_) => "more than 30 licensees of the list are found",
+        Refusal::RequirementsUnmet => "the expression reads, but the list does not meet it",
+        Refusal::BadCursor(_) => "the listing has no such cursor",
+        Refusal::NoBudget => "a budget of 0 examines nothing",
     }
-    if b == b'\n' {
-        return at;
-    }
-    write::byte(out, at, b)
 }
 
-// The line of the byte behind b.
-fn line_behind(b: u8, line: usize) -> usize {
-    if b == b'\n' { line % 1024 + 1 } else { line }
-}
-
-fn line_of(s: &[u8], k: usize, out: &mut Out, at: usize) -> usize {
-    let mut n = at;
-    let mut line = 0;
-    let mut i = 0;
-    while i < s.len() {
-        n = pick(out, n, s[i], line, k);
-        line = line_behind(s[i], line);
-        i += 1;
+// What may stand where refusal 6 is given.
+pub(crate) fn expected(e: Expected) -> &'static str {
+    match e {
+        Expected::Term => "a licence or (",
+        Expected::Joint => "AND or OR",
+        Expected::Tail => "AND, OR or )",
+        Expected::Name => "AND, OR, WITH, ) or +",
+        Expected::Suffixed => "AND, OR, WITH or )",
+        Expected::Addition => "an exception or AdditionRef-..",
+        Expected::Licence => "a licence",
     }
-    n
-}
-
-// Puts the phrase k. A space at the end of a line is written \x20, so that it is seen.
-pub(crate) fn put(out: &mut Out, at: usize, k: usize) -> usize {
-    line_of(
-        b"
-this byte is not UTF-8
-the expression is longer than 1,024 bytes
-no licence, operator or parenthesis can begin here
-this is no operator and no name that is known
-white space stands before the +
-this may not stand here
-this ) closes no parenthesis
-this ( is never closed
-the expression is empty
-this name is deprecated (--deprecated allows it)
-a GNU name takes no + (--gnu-plus allows it)
-a name that ends in -or-later takes no +
-this name has no -or-later name, and so takes no +
-this is the 65th licence, and 64 are the most
-this is the 33rd open parenthesis, and 32 are the most
-the canonical text does not fit
-the list file is wrong
-more than 30 licensees of the list are found
-the expression reads, but the list does not meet it
-the listing has no such cursor
-a budget of 0 examines nothing
-the expression may not end here
-a licence or (
-AND or OR
-AND, OR or )
-AND, OR, WITH, ) or +
-AND, OR, WITH or )
-an exception or AdditionRef-..
-a licence
-refused\x20
-:\x20
- (
-)
-,\x20
-expected:\x20
-expression \x20
-canonical  \x20
-as written
-none,\x20
-tree       \x20
-           \x20
-AND
-OR
-\xE2\x94\x94\xE2\x94\x80\x20
-\xE2\x94\x9C\xE2\x94\x80\x20
-\xE2\x94\x82 \x20
-  \x20
- WITH\x20
-  (written\x20
-found      \x20
-found       nothing
-\x20
-choice     \x20
-also       \x20
-set        \x20
-sets       \x20
- minimal set,\x20
- minimal sets,\x20
- examined
-; go on with --from\x20
-, finished
-examined\x20
- of\x20
- sets; resume with --from\x20
-valid:\x20
- entry
- entries
- \x20
-: its count is over 64, or its contents are cut short
-: bytes stand behind the last body
-: entry\x20
-its offset is\x20
-, but its body has to begin at\x20
-its length is\x20
-, and not from 1 to 200
-its body goes on behind the end of the file
-its body is not one licence with at most an addition
-",
-        k,
-        out,
-        at,
-    )
 }

@@ -1,350 +1,206 @@
 // The found licensees, the choice and the listing.
+use crate::input::Asked;
+use crate::stop::Stop;
 use crate::write::Out;
-use crate::{lists, phrases, refusals, show, write};
-use minimize::{Choice, Finding, Listing};
-use mode::Mode;
-use refusal::Refusal;
+use crate::{phrases, show, write};
+use minimize::Listing;
 use std::io;
-
-// The list entry of each bit of a mask.
-type Entries = [u8; 30];
 
 // How many masks are examined before the progress is told.
 const SLICE: u64 = 1048576;
 
-// How far a listing is: the next cursor, how many masks may still be examined, how many sets were found, and the cursor that was told last.
+// The licensees of the list that are found: the list entry of each bit of a mask.
 #[derive(Clone, Copy)]
-struct Run {
-    cursor: u64,
-    left: u64,
-    sets: u64,
-    told: u64,
-    state: State,
+struct Found<'a> {
+    file: &'a [u8],
+    entries: &'a [u8],
 }
 
+impl Found<'_> {
+    // How many masks there are: at most 30 licensees are found.
+    fn masks(self) -> u64 {
+        (1u64 << self.entries.len().min(30)) - 1
+    }
+
+    // A licensee as the list has it.
+    fn licensee(self, entry: u8, out: &mut Out) {
+        show::whole(licensee::entry(self.file, entry as usize), out);
+    }
+
+    // A line for each licensee, in the order of the bits, with its number from 1 up; the label stands before the first.
+    fn lines(self, out: &mut Out) {
+        if self.entries.is_empty() {
+            write::line(out, phrases::NOT_FOUND);
+        }
+        for (j, entry) in self.entries.iter().enumerate() {
+            let label = if j == 0 {
+                phrases::FOUND
+            } else {
+                phrases::MARGIN
+            };
+            write::count(out, label, (j + 1) as u64, phrases::SPACE);
+            self.licensee(*entry, out);
+            write::line_end(out);
+        }
+    }
+
+    // The licensees of a set: a comma stands before each but the first.
+    fn set(self, mask: u64, out: &mut Out) {
+        let mut bits = mask;
+        let mut before = "";
+        for entry in self.entries {
+            if bits % 2 == 1 {
+                write::text(out, before);
+                self.licensee(*entry, out);
+                before = phrases::COMMA;
+            }
+            bits /= 2;
+        }
+    }
+}
+
+// How a listing ends that is not refused.
 #[derive(Clone, Copy)]
-enum State {
-    Goes,
+enum End {
     Paused,
     Finished,
-    Refused(Refusal),
 }
 
-fn less(a: u64, b: u64) -> u64 {
-    if b < a { a - b } else { 0 }
-}
-
-fn more(a: u64) -> u64 {
-    if a < u64::MAX { a + 1 } else { a }
-}
-
-fn least(a: u64, b: u64) -> u64 {
-    if a < b { a } else { b }
-}
-
-// How many masks there are of so many licensees.
-fn masks(found: usize) -> u64 {
-    if 30 < found {
-        return 0;
-    }
-    less(1 << found, 1)
-}
-
-// The licensee of a bit, as its list has it.
-fn licensee(file: &[u8], entries: &Entries, j: usize, out: &mut Out, at: usize) -> usize {
-    let body = licensee::entry(file, text::byte(entries, j) as usize);
-    show::whole(body, out, at)
-}
-
-// The licensee of the bit j, if the set has it: a comma stands before each but the first.
-fn member(
-    file: &[u8],
-    entries: &Entries,
-    bits: u64,
-    j: usize,
-    out: &mut Out,
-    from: usize,
-    at: usize,
-) -> usize {
-    if bits % 2 == 0 {
-        return at;
-    }
-    if at == from {
-        return licensee(file, entries, j, out, at);
-    }
-    let n = phrases::put(out, at, phrases::COMMA);
-    licensee(file, entries, j, out, n)
-}
-
-// The licensees of a set.
-fn set(file: &[u8], entries: &Entries, mask: u64, out: &mut Out, from: usize) -> usize {
-    let mut at = from;
-    let mut bits = mask;
-    let mut j = 0;
-    while j < 30 {
-        at = member(file, entries, bits, j, out, from, at);
-        bits = bits / 2;
-        j += 1;
-    }
-    at
-}
-
-// What stands before a found licensee: the label before the first.
-fn found_label(j: usize) -> usize {
-    if j == 0 {
-        phrases::FOUND
-    } else {
-        phrases::MARGIN
-    }
-}
-
-// The line of the found licensee of a bit, with its number from 1 up.
-fn found_line(file: &[u8], entries: &Entries, j: usize, out: &mut Out, at: usize) -> usize {
-    let n = write::count(out, at, found_label(j), more(j as u64), phrases::SPACE);
-    let m = licensee(file, entries, j, out, n);
-    write::line_end(out, m)
-}
-
-// A line for each found licensee, in the order of the bits.
-fn found_lines(file: &[u8], entries: &Entries, count: usize, out: &mut Out) -> usize {
-    let mut n = 0;
-    let mut j = 0;
-    while j < count {
-        n = found_line(file, entries, j, out, n);
-        j += 1;
-    }
-    n
-}
-
-fn found(
-    rt: &HostRuntime,
-    file: &[u8],
-    entries: &Entries,
-    count: usize,
-    out: &mut Out,
-) -> io::Result<()> {
-    let n = if count == 0 {
-        write::line(out, 0, phrases::NOT_FOUND)
-    } else {
-        found_lines(file, entries, count, out)
-    };
-    write::flush(rt, out, n)
-}
-
-// What a found set is: the first one from the start is the choice.
-fn set_label(from: u64, sets: u64) -> usize {
-    if from != 1 {
-        return phrases::SET;
-    }
-    if sets == 0 {
-        phrases::CHOICE
-    } else {
-        phrases::ALSO
-    }
-}
-
-fn tell_set(
-    rt: &HostRuntime,
-    file: &[u8],
-    entries: &Entries,
-    mask: u64,
-    from: u64,
+// A listing under way.
+#[derive(Drop)]
+struct Run<'a> {
+    rt: &'a HostRuntime,
+    asked: &'a Asked<'a>,
+    found: Found<'a>,
+    out: &'a mut Out,
+    // the next cursor, and how many masks may still be examined
+    cursor: u64,
+    left: u64,
+    // how many sets were found
     sets: u64,
-    out: &mut Out,
-) -> io::Result<()> {
-    let n = phrases::put(out, 0, set_label(from, sets));
-    let m = set(file, entries, mask, out, n);
-    let k = write::line_end(out, m);
-    write::flush(rt, out, k)
+    // the cursor that was told last
+    told: u64,
 }
 
-fn tell_progress(rt: &HostRuntime, next: u64, total: u64, out: &mut Out) -> io::Result<()> {
-    let n = write::count(out, 0, phrases::EXAMINED, less(next, 1), phrases::OF);
-    let m = write::count(out, n, phrases::NOTHING, total, phrases::RESUME);
-    let k = write::decimal(out, m, next);
-    let p = write::line_end(out, k);
-    write::flush(&rt.stderr(), out, p)
-}
-
-// Tells the progress of a listing that goes on, a slice after it was told last; answers the cursor that was told last.
-fn progress(rt: &HostRuntime, told: u64, next: u64, total: u64, out: &mut Out) -> io::Result<u64> {
-    if less(next, told) < SLICE {
-        return Ok(told);
-    }
-    tell_progress(rt, next, total, out)?;
-    Ok(next)
-}
-
-// A listing that has come to its next cursor, with so many sets.
-fn came(
-    rt: &HostRuntime,
-    r: Run,
-    next: u64,
-    sets: u64,
-    total: u64,
-    out: &mut Out,
-) -> io::Result<Run> {
-    let left = less(r.left, less(next, r.cursor));
-    if left == 0 {
-        return Ok(Run {
-            cursor: next,
-            left: 0,
-            sets: sets,
-            told: r.told,
-            state: State::Paused,
-        });
-    }
-    Ok(Run {
-        cursor: next,
-        left: left,
-        sets: sets,
-        told: progress(rt, r.told, next, total, out)?,
-        state: State::Goes,
-    })
-}
-
-fn ended(r: Run, next: u64, state: State) -> Run {
-    Run {
-        cursor: next,
-        left: r.left,
-        sets: r.sets,
-        told: r.told,
-        state: state,
-    }
-}
-
-// One call of the listing.
-fn turn(
-    rt: &HostRuntime,
-    s: &[u8],
-    m: Mode,
-    file: &[u8],
-    entries: &Entries,
-    from: u64,
-    total: u64,
-    r: Run,
-    out: &mut Out,
-) -> io::Result<Run> {
-    match minimize::listing(s, m, file, r.cursor, least(r.left, SLICE)) {
-        Listing::Found { mask, next } => {
-            tell_set(rt, file, entries, mask, from, r.sets, out)?;
-            came(rt, r, next, more(r.sets), total, out)
-        }
-        Listing::Paused(next) => came(rt, r, next, r.sets, total, out),
-        Listing::Finished(next) => Ok(ended(r, next, State::Finished)),
-        Listing::Refused(x) => Ok(ended(r, r.cursor, State::Refused(x))),
-    }
-}
-
-// The cursor to go on from, where the listing does not end.
-fn next_cursor(cursor: u64, end: usize, out: &mut Out, at: usize) -> usize {
-    if end == phrases::GO_ON {
-        return write::decimal(out, at, cursor);
-    }
-    at
-}
-
-// How many sets were found and how many masks examined, and how that ended.
-fn tell_end(rt: &HostRuntime, r: Run, from: u64, end: usize, out: &mut Out) -> io::Result<u64> {
-    let n = phrases::put(out, 0, phrases::SETS);
-    let m = write::plural(out, n, r.sets, phrases::MINIMAL_SET, phrases::MINIMAL_SETS);
-    let k = write::count(
-        out,
-        m,
-        phrases::NOTHING,
-        less(r.cursor, from),
-        phrases::COUNTED,
-    );
-    let p = phrases::put(out, k, end);
-    let q = next_cursor(r.cursor, end, out, p);
-    let z = write::line_end(out, q);
-    write::flush(rt, out, z)?;
-    Ok(0)
-}
-
-// How a listing ended: answers the number of its refusal, 0 where there is none.
-fn summary(rt: &HostRuntime, s: &[u8], r: Run, from: u64, out: &mut Out) -> io::Result<u64> {
-    let state = r.state;
-    match state {
-        State::Goes => Ok(0),
-        State::Paused => tell_end(rt, r, from, phrases::GO_ON, out),
-        State::Finished => tell_end(rt, r, from, phrases::FINISHED, out),
-        State::Refused(x) => refusals::told_all(rt, s, x, out),
-    }
-}
-
-fn goes(r: Run) -> bool {
-    let state = r.state;
-    match state {
-        State::Goes => true,
-        State::Paused => false,
-        State::Finished => false,
-        State::Refused(_) => false,
-    }
-}
-
-// The listing from a cursor on, call by call. A proved loop has to end: no run uses up the turns.
-fn list(
-    rt: &HostRuntime,
-    s: &[u8],
-    m: Mode,
-    file: &[u8],
-    entries: &Entries,
-    total: u64,
-    from: u64,
-    budget: u64,
-    out: &mut Out,
-) -> io::Result<u64> {
-    let mut r = Run {
-        cursor: from,
-        left: budget,
-        sets: 0,
-        told: from,
-        state: State::Goes,
-    };
-    for _ in 0..u64::MAX {
-        r = turn(rt, s, m, file, entries, from, total, r, out)?;
-        if !goes(r) {
-            break;
+impl Run<'_> {
+    // What a found set is: the first one from the start is the choice.
+    fn label(&self) -> &'static str {
+        if self.asked.from != 1 {
+            phrases::SET
+        } else if self.sets == 0 {
+            phrases::CHOICE
+        } else {
+            phrases::ALSO
         }
     }
-    summary(rt, s, r, from, out)
+
+    fn tell_set(&mut self, mask: u64) -> io::Result<()> {
+        let label = self.label();
+        write::text(self.out, label);
+        self.found.set(mask, self.out);
+        write::line_end(self.out);
+        self.sets = self.sets.saturating_add(1);
+        write::flush(self.rt, self.out)
+    }
+
+    // Tells the progress of a listing that goes on, a slice after it was told last.
+    fn tell_progress(&mut self) -> io::Result<()> {
+        if self.cursor.saturating_sub(self.told) < SLICE {
+            return Ok(());
+        }
+        self.told = self.cursor;
+        let examined = self.cursor.saturating_sub(1);
+        write::count(self.out, phrases::EXAMINED, examined, phrases::OF);
+        write::decimal(self.out, self.found.masks());
+        write::text(self.out, phrases::RESUME);
+        write::decimal(self.out, self.cursor);
+        write::line_end(self.out);
+        write::flush(&self.rt.stderr(), self.out)
+    }
+
+    // The listing comes to its next cursor, and pauses there if no more masks may be examined.
+    fn come(&mut self, next: u64) -> io::Result<Option<End>> {
+        self.left = self.left.saturating_sub(next.saturating_sub(self.cursor));
+        self.cursor = next;
+        if self.left == 0 {
+            return Ok(Some(End::Paused));
+        }
+        self.tell_progress()?;
+        Ok(None)
+    }
+
+    // One call of the listing.
+    fn turn(&mut self) -> Result<Option<End>, Stop> {
+        let asked = self.asked;
+        let budget = self.left.min(SLICE);
+        match minimize::listing(asked.text, asked.mode, asked.file, self.cursor, budget)? {
+            Listing::Found { mask, next } => {
+                self.tell_set(mask)?;
+                Ok(self.come(next)?)
+            }
+            Listing::Paused(next) => Ok(self.come(next)?),
+            Listing::Finished(next) => {
+                self.cursor = next;
+                Ok(Some(End::Finished))
+            }
+        }
+    }
+
+    // How many sets were found and how many masks examined, and how that ended: the cursor to go on from, where there is more.
+    fn tell_end(&mut self, end: End) -> io::Result<()> {
+        let examined = self.cursor.saturating_sub(self.asked.from);
+        write::text(self.out, phrases::SETS);
+        write::plural(
+            self.out,
+            self.sets,
+            phrases::MINIMAL_SET,
+            phrases::MINIMAL_SETS,
+        );
+        write::decimal(self.out, examined);
+        write::text(self.out, phrases::COUNTED);
+        match end {
+            End::Paused => {
+                write::text(self.out, phrases::GO_ON);
+                write::decimal(self.out, self.cursor);
+            }
+            End::Finished => write::text(self.out, phrases::FINISHED),
+        }
+        write::line_end(self.out);
+        write::flush(self.rt, self.out)
+    }
+
+    // The listing, call by call. A proved loop has to end: no run uses up the turns.
+    fn list(&mut self) -> Result<(), Stop> {
+        for _ in 0..u64::MAX {
+            if let Some(end) = self.turn()? {
+                self.tell_end(end)?;
+                break;
+            }
+        }
+        Ok(())
+    }
 }
 
-// The list meets the expression, or it is refused. A budget of 1 is enough to know.
-fn met(
-    rt: &HostRuntime,
-    s: &[u8],
-    m: Mode,
-    file: &[u8],
-    entries: &Entries,
-    count: usize,
-    from: u64,
-    budget: u64,
-    out: &mut Out,
-) -> io::Result<u64> {
-    let Choice::Refused(x) = minimize::choice(s, m, file, 1) else {
-        return list(rt, s, m, file, entries, masks(count), from, budget, out);
-    };
-    refusals::told_all(rt, s, x, out)
-}
-
-// The found licensees, then the sets: answers the number of a refusal, 0 where there is none.
-pub(crate) fn all(
-    rt: &HostRuntime,
-    s: &[u8],
-    m: Mode,
-    file: &[u8],
-    from: u64,
-    budget: u64,
-    out: &mut Out,
-) -> io::Result<u64> {
+// The found licensees, then the sets, if the list meets the expression: a budget of 1 is enough to know.
+pub(crate) fn all(rt: &HostRuntime, asked: &Asked<'_>, out: &mut Out) -> Result<(), Stop> {
     let mut entries = [0u8; 30];
-    match minimize::found(s, m, file, &mut entries) {
-        Finding::Refused(x) => lists::refused(rt, file, x, out),
-        Finding::Count(k) => {
-            found(rt, file, &entries, k, out)?;
-            met(rt, s, m, file, &entries, k, from, budget, out)
-        }
-    }
+    let count = minimize::found(asked.text, asked.mode, asked.file, &mut entries)?;
+    let found = Found {
+        file: asked.file,
+        entries: text::cut(&entries, 0, count),
+    };
+    found.lines(out);
+    write::flush(rt, out)?;
+    minimize::choice(asked.text, asked.mode, asked.file, 1)?;
+    let mut run = Run {
+        rt,
+        asked,
+        found,
+        out,
+        cursor: asked.from,
+        left: asked.budget,
+        sets: 0,
+        told: asked.from,
+    };
+    run.list()
 }

@@ -1,6 +1,0 @@
--- The measure is what is left of the text.
-use Rattle.std.proofs.Common.{◌-◌, length}
-use Rattle.slip.proofs.show.whole.Given as goal
-
-abbrev pub decreases-loop-i : goal.decreases-loop-i
-decreases-loop-i l = length l.s - l.i
