@@ -110,6 +110,20 @@ pub cell_at : (i : ℕ) → i < table_bytes → get_or (to_le_bytes w64 (get_or 
 unfolding words
 cell_at i h = packed table_words (table_of rows) i table_small (omega arith)
 
+bytes_up : (j : ℕ) → 2 ^ (8 * j) ≡ 256 ^ j
+bytes_up zero = refl
+bytes_up (suc j) =
+    let e : 8 * suc j ≡ 8 + 8 * j = omega arith in
+    rw (e, pow-add 2 8 (8 * j), pow-succ' 256 j, bytes_up j)
+
+-- and the lowest byte of what is left when its word is shifted by the bytes before it
+pub cell_low : (i : ℕ) → i < table_bytes → get_or (to_le_bytes w64 (get_or words (i / 8) 0 / 2 ^ (8 * (i % 8)))) 0 0 ≡ get_or (table_of rows) i 0
+cell_low i h =
+    let z : 0 + i % 8 ≡ i % 8 = omega arith in
+    let e : get_or (to_le_bytes w64 (get_or words (i / 8) 0)) (i % 8) 0 ≡ get_or words (i / 8) 0 / 256 ^ (i % 8) % 256
+    = low_at 0 8 (get_or words (i / 8) 0) (i % 8) (omega arith) ∙ rw z in
+    rw (bytes_up (i % 8)) (sym e ∙ cell_at i h)
+
 -- Rows in the table.
 
 -- the directory from its row k on is the directory of the rows from k on

@@ -33,11 +33,13 @@ pub struct Loose {
 }
 
 // The byte at place i of the table.
+#[tactic(auto, using(crate::proofs::LayoutLaws::cell_at, crate::proofs::LayoutLaws::cell_low))]
 fn cell(i: usize) -> u8
     requires { i < table_bytes }
     ensures { result ≡ get_or (table_of rows) i 0 }
 {
-    table::table()[i / 8].to_le_bytes()[i % 8]
+    // shifted in a register, since the lookups read it for each name: an index among the bytes would take them through memory
+    (table::table()[i / 8] >> (8 * (i % 8))).to_le_bytes()[0]
 }
 
 // The two bytes from place i of the table on as one number, the low byte first.
@@ -49,6 +51,7 @@ fn pair(i: usize) -> usize
 }
 
 // Where the name k starts.
+#[tactic(auto, using(crate::proofs::LayoutLaws::directory_fits, crate::proofs::LayoutLaws::start_at_lem))]
 fn start(k: usize) -> usize
     requires { k < length rows }
     ensures { result ≡ start_at k }
@@ -57,6 +60,7 @@ fn start(k: usize) -> usize
 }
 
 // How long the name k is.
+#[tactic(auto, using(crate::proofs::LayoutLaws::directory_fits, crate::proofs::LayoutLaws::length_at))]
 fn len(k: usize) -> usize
     requires { k < length rows }
     ensures { result ≡ length (name_at k) }
@@ -65,6 +69,7 @@ fn len(k: usize) -> usize
 }
 
 // The mark of the name k.
+#[tactic(auto, using(crate::proofs::LayoutLaws::directory_fits, crate::proofs::LayoutLaws::mark_at_lem))]
 fn mark(k: usize) -> usize
     requires { k < length rows }
     ensures { result ≡ mark_at k }
@@ -232,6 +237,7 @@ pub fn only(k: usize) -> Option<usize>
 }
 
 // How long the name k of the table is: licences, then exceptions, then imprecise names.
+#[tactic(auto, using(crate::proofs::LayoutLaws::counts, crate::proofs::LayoutLaws::unnamed))]
 pub fn name_len(k: usize) -> usize
     ensures { result ≡ length (name_at k) }
 {

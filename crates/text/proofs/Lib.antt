@@ -1,1 +1,3 @@
 pub mod OverlayLaws
+pub mod Pointwise
+pub mod Ranges

@@ -170,6 +170,7 @@ fn is_ascii(s: &[u8]) -> bool
 }
 
 // Where the first ill-formed sequence starts, or the length where there is none.
+#[tactic(auto, using(crate::specs::Laws::ascii_well), unfolding(crate::specs::Utf8::first_ill))]
 pub fn first_ill(s: &[u8]) -> usize
     ensures { result ≡ first_ill s.now }
 {

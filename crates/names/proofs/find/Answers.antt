@@ -50,19 +50,21 @@ module _ (from to : ℕ) (b : to ≤ length rows) (s : Ascending (texts (part fr
 
 pub returns-in-Equal : goal.returns-in-Equal
 returns-in-Equal c =
-    hit c.args.from c.args.to c.requires.1 c.requires.2 c.args.run.now c.loop-k.k (omega arith) (omega arith) (sym c.compare.ensures ∙ c.in-Equal.is)
+    let e : order c.args.run.now (name_at c.loop-k.k) ≡ Equal = grind arith in
+    hit c.args.from c.args.to c.requires.1 c.requires.2 c.args.run.now c.loop-k.k (omega arith) (omega arith) e
 
 pub returns-in-Less : goal.returns-in-Less
 returns-in-Less c =
-    over c.args.from c.args.to c.requires.1 c.requires.2 c.args.run.now c.loop-k.k (omega arith) (omega arith)
-    (sym c.compare.ensures ∙ c.in-Less.is) c.loop-k.invariant
+    let e : order c.args.run.now (name_at c.loop-k.k) ≡ Less = grind arith in
+    over c.args.from c.args.to c.requires.1 c.requires.2 c.args.run.now c.loop-k.k (omega arith) (omega arith) e c.loop-k.invariant
 
 pub loop-k-preserved : goal.loop-k-preserved
 loop-k-preserved c =
     let a = c.args in
     elim c.if-len-run.branch [
       | then-len-run+in-Greater w ↦
-          on a.from a.to c.requires.1 c.requires.2 a.run.now c.loop-k.k (omega arith) (omega arith) (sym w.compare.ensures ∙ w.in-Greater.is)
+          let e : order a.run.now (name_at c.loop-k.k) ≡ Greater = grind arith in
+          on a.from a.to c.requires.1 c.requires.2 a.run.now c.loop-k.k (omega arith) (omega arith) e
       | else-len-run w ↦
           past a.from a.to c.requires.1 c.requires.2 a.run.now c.loop-k.k (omega arith) (omega arith)
           (λ e. w.if-len-run.false (c.len.ensures ∙ e)) c.loop-k.invariant

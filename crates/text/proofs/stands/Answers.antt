@@ -1,16 +1,9 @@
 -- A text begins with p where its front of p's length is p, which `starts_with` compares byte by byte; where there is no text left, only nothing stands.
-use Rattle.std.proofs.Common.{◌≡◌, ◌∙◌, sym, refl, ap, ℕ, ◌-◌, List, [], ◌∷◌, arith, length, take, drop, length-drop, take_all, ne_eqb, drop_of_length-le}
-use Rattle.std.specs.Prelude.{◌&&◌}
-use Rattle.std.specs.Cmp.Lexicographic.{pointwise}
+use Rattle.std.proofs.Common.{◌≡◌, ◌∙◌, sym, refl, ap, ℕ, ◌-◌, List, [], ◌∷◌, arith, length, drop, length-drop, take_all, ne_eqb, drop_of_length-le}
 use lib.Dec.{eqb}
 use Rattle.text.specs.Text.{begins}
+use Rattle.text.proofs.Pointwise.{begins_pointwise, begins_apart}
 use Rattle.text.proofs.stands.Goals as goal
-
-begins_pointwise : (p t : List ℕ) → pointwise eqb p (take (length p) t) ≡ begins p t
-unfolding begins
-begins_pointwise [] t = refl
-begins_pointwise (a ∷ p) [] = refl
-begins_pointwise (a ∷ p) (b ∷ t) = ap (λ r. eqb a b && r) (begins_pointwise p t)
 
 begins_nothing : (p : List ℕ) → eqb (length p) 0 ≡ begins p []
 unfolding begins
@@ -21,8 +14,9 @@ pub returns-in-Some : goal.returns-in-Some
 returns-in-Some c =
     let a = c.args in
     let t = drop a.at a.s.now in
-    let e : take (length a.s.now - a.at) t ≡ t = take_all (length a.s.now - a.at) t (omega (arith, length-drop a.at a.s.now)) in
-    c.starts_with.ensures.value ∙ begins_pointwise a.p.now c.in-Some.rest.now ∙ ap (begins a.p.now) (c.in-Some.ensures.lookup.0.2 ∙ e)
+    let e : c.in-Some.rest.now ≡ drop a.at a.s.now
+    = c.in-Some.ensures.lookup.0.2 ∙ take_all (length a.s.now - a.at) t (omega (arith, length-drop a.at a.s.now)) in
+    grind (arith, begins_pointwise, begins_apart a.p.now t)
 
 pub returns-in-None : goal.returns-in-None
 returns-in-None c =
