@@ -15,9 +15,32 @@ use Rattle.refusal.specs.declared.Span.{Span}
 use Rattle.refusal.specs.declared.Refusal.TheVariants.{SeparatedPlus, BadCursor}
 use Rattle.mode.specs.declared.Mode.{Mode}
 use Rattle.lexer.specs.declared.Token.{Token}
-use Rattle.lexer.specs.declared.Token.TheVariants.{Or, Plus, Open, Close}
+use Rattle.lexer.specs.declared.Token.TheVariants.{And, Or, With, Plus, Open, Close}
 use Rattle.lexer.specs.Lex.{ref_end, or_else, operator_of, got, run_of, mark_of, scan_of, from_of}
 use Rattle.lexer.specs.Shape.{document_of}
+
+-- the operators, by what the comparisons say
+module _ (r : List ℕ) (e : ℕ) where
+  abbrev spelt : List ℕ → List ℕ → Bool
+  spelt v w = same r v || same r w
+
+  pub operator_and : spelt (ascii "AND") (ascii "and") ≡ true → Some (And, e) ≡ operator_of r e
+  unfolding operator_of
+  operator_and x = simp x
+
+  pub operator_or : spelt (ascii "AND") (ascii "and") ≡ false → spelt (ascii "OR") (ascii "or") ≡ true → Some (Or, e) ≡ operator_of r e
+  unfolding operator_of
+  operator_or x y = simp (x, y)
+
+  pub operator_with : spelt (ascii "AND") (ascii "and") ≡ false → spelt (ascii "OR") (ascii "or") ≡ false
+      → spelt (ascii "WITH") (ascii "with") ≡ true → Some (With, e) ≡ operator_of r e
+  unfolding operator_of
+  operator_with x y z = simp (x, y, z)
+
+  pub operator_not : spelt (ascii "AND") (ascii "and") ≡ false → spelt (ascii "OR") (ascii "or") ≡ false
+      → spelt (ascii "WITH") (ascii "with") ≡ false → None ≡ operator_of r e
+  unfolding operator_of
+  operator_not x y z = simp (x, y, z)
 
 -- the operators, by a run's length and its first byte
 module _ (r : List ℕ) (e : ℕ) where
@@ -86,6 +109,13 @@ module _ (r : List ℕ) (e : ℕ) where
         astray (ascii "WITH") n,
         astray (ascii "with") m,
       )
+
+-- a function that tries a, and then b where a says nothing
+pub or_is : (w a b : Option (Token × ℕ)) (t : Token) (e : ℕ) → w ≡ a → w ≡ Some (t, e) → w ≡ or_else a b
+or_is w a b t e p q = simp (← p, q)
+
+pub or_not : (w a b z : Option (Token × ℕ)) → w ≡ a → w ≡ None → z ≡ b → z ≡ or_else a b
+or_not w a b z p q r = simp (← p, q) r
 
 -- a function that tries a, and then b where a says nothing: `said` is what the second try is known to answer
 pub or_said : {P : Type 0} (w : Option (Token × ℕ)) (a b z : Option (Token × ℕ)) → w ≡ a → (P → z ≡ b)

@@ -1,5 +1,6 @@
 pub mod Step
 pub mod Lex
+pub mod RunBits
 pub mod Tokens
 pub mod Sign
 pub mod Spelling

@@ -9,6 +9,8 @@ ghost use Rattle.text.specs.WalkLaws.{one_fits};
 ghost use Rattle.lexer.specs.Lex.{run_end, ref_end, operator_of, unknown_of, word_of, got, run_of, mark_of, scan_of, check_of, from_of, step_of};
 ghost use Rattle.lexer.specs.Shape.{listed_of, named_of, document_of, ref_at, referred_of, loose_of, other_of};
 
+mod run_bits;
+
 pub use mode::Mode;
 use refusal::{Refusal, Span};
 
@@ -52,10 +54,11 @@ fn ref_byte(b: u8) -> bool
     b.is_ascii_alphanumeric() | (b == b'-') | (b == b'.')
 }
 
+#[tactic(auto, using(crate::specs::RunBits::run_bit_says))]
 fn run_byte(b: u8) -> bool
     ensures { result ≡ run_byte b }
 {
-    ref_byte(b) | (b == b':')
+    run_bits::run_bits()[b as usize] == 1
 }
 
 // A walk over the bytes of a reference's name.
@@ -100,7 +103,7 @@ fn run_end(s: &[u8], from: usize) -> usize
     text::walk::<RunBytes>(s, from)
 }
 
-#[tactic(auto, using(std::proofs::lemmas::Bool::Decides::nat_tests), unfolding(crate::specs::Lex::operator_of, text::specs::Text::same))]
+#[tactic(auto, using(std::proofs::lemmas::Bool::Decides::nat_tests, crate::proofs::LexLaws::operator_short, crate::proofs::LexLaws::operator_two, crate::proofs::LexLaws::operator_three, crate::proofs::LexLaws::operator_four, crate::proofs::LexLaws::operator_long), unfolding(crate::specs::Lex::operator_of, text::specs::Text::same))]
 fn operator(run: &[u8], e: usize) -> Option<(Token, usize)>
     ensures { result ≡ operator_of run.now e }
 {
@@ -243,6 +246,7 @@ fn run(m: Mode, s: &[u8], p: usize) -> Step
 }
 
 // What stands at p, where the white space from `at` on ends.
+#[tactic(auto, using(crate::proofs::LexLaws::mark_done))]
 fn mark(m: Mode, s: &[u8], at: usize, p: usize) -> Step
     ensures { result ≡ mark_of s.now m at p }
 {
@@ -276,6 +280,7 @@ pub fn scan(m: Mode, s: &[u8], at: usize) -> Step
 }
 
 // May a text be read: at most 1,024 bytes of well-formed UTF-8?
+#[tactic(auto, using(crate::proofs::Agree::check_long))]
 pub fn check(s: &[u8]) -> Result<(), Refusal>
     ensures { result ≡ check_of s.now }
 {

@@ -1,10 +1,7 @@
 use Rattle.std.proofs.Common.{sym, arith}
 use Rattle.utf8.specs.BoundaryLaws.{boundary_le, ill_boundary}
-use Rattle.lexer.proofs.Agree.{check_long, check_ill, check_fine}
+use Rattle.lexer.proofs.Agree.{check_ill, check_fine}
 use Rattle.lexer.proofs.check.Goals as goal
-
-pub returns-then-s-gt1024 : goal.returns-then-s-gt1024
-returns-then-s-gt1024 c = sym (check_long _ (omega arith))
 
 pub returns-then-start-s : goal.returns-then-start-s
 returns-then-start-s c =

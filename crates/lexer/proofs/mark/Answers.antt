@@ -1,9 +1,6 @@
 use Rattle.std.proofs.Common.{◌∙◌, arith}
-use Rattle.lexer.proofs.LexLaws.{mark_done, mark_plus, mark_apart, mark_open, mark_close, mark_slash, mark_run}
+use Rattle.lexer.proofs.LexLaws.{mark_plus, mark_apart, mark_open, mark_close, mark_slash, mark_run}
 use Rattle.lexer.proofs.mark.Goals as goal
-
-pub returns-then-s-p : goal.returns-then-s-p
-returns-then-s-p c = mark_done _ _ _ _ (omega arith)
 
 pub returns-then-p-at : goal.returns-then-p-at
 returns-then-p-at c = c.emit.ensures ∙ mark_plus _ _ _ _ (omega arith) c.if-b-eq43.true c.if-p-at.true

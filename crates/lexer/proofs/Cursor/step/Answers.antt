@@ -1,4 +1,4 @@
-use Rattle.std.proofs.Common.{◌∙◌, ap, Err}
+use Rattle.std.proofs.Common.{◌∙◌}
 use Rattle.refusal.proofs.Passed.{passed}
 use Rattle.lexer.specs.Lex.{step_of}
 use Rattle.lexer.proofs.Cursor.step.Goals as goal
