@@ -78,7 +78,7 @@ module _ (q : List Node) (b : List ℕ) where
   unfolding records_of
   recorded_start = (sym (overlay_none 0 b), refl)
 
-  pub recorded_on : (c e : List ℕ) (i : ℕ) (d : Node) → i < length q → length q * 16 ≤ length b
+  pub recorded_on : (c e : List ℕ) (i : ℕ) (d : Node) → i < length q → i * 16 + 16 ≤ length b
       → e ≡ overlay (i * 16) (node_cells (get_or q i d)) c → Recorded q b c i → Recorded q b e (i + 1)
   recorded_on c e i d h k g w =
       let p = records_of (take i q) in

@@ -126,7 +126,10 @@ fn put_node(node: Node, out: &mut [u16], at: usize)
     ensures { out.new ≡ overlay at (node_cells node) out.old }
 {
     let p = of_node(node);
-    text::put(out, at, &p);
+    // cell by cell, so that each goes from its register: copied as a slice they would go through memory
+    for i in 0..16 {
+        out[at + i] = p[i];
+    }
 }
 
 // Writes the cells of nodes over the first ones, where there is room.

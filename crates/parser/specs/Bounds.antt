@@ -59,7 +59,7 @@ module _ (s : List ℕ) (m : Mode) (at : ℕ) where
       go : (x : Option Got) → Ahead s m at (Ok x) → InsideStep s (Ok x) → SmallStep x
       go (Some g) a i =
           let f : Small g.span = (omega (arith, a.some, a.inside), omega (arith, a.inside)) in
-          (token_small s g.token g.span f i, f)
+          (token_small s g.token g.span f i, f, omega (arith, a.some, a.inside))
       go None a i = tt
 
   -- the step goes ahead, and a `(` is one byte

@@ -1,7 +1,7 @@
 -- One turn of the stack reader: what each of its functions answers. The code's own machinery, nothing to believe: that the turns make the
 -- reader by levels is proved.
 use Rattle.lexer.specs.declared.Got.{Got}
-use Rattle.std.specs.Prelude.{ℕ, ◌+◌, ◌-◌, ◌<◌, Bool, true, false, cond, ◌||◌, leb, ltb, Option, Some, None, Result, Ok, Err}
+use Rattle.std.specs.Prelude.{ℕ, ◌+◌, ◌-◌, ◌<◌, Bool, true, false, cond, ◌||◌, leb, ltb, List, replicate, Option, Some, None, Result, Ok, Err}
 use Rattle.refusal.specs.Refused.{span}
 use Rattle.refusal.specs.declared.Span.{Span}
 use Rattle.refusal.specs.declared.Expected.TheVariants as E
@@ -18,6 +18,7 @@ use Rattle.grammar.specs.declared.Before.TheVariants.{Nothing, Joint, Listed, Te
 use Rattle.grammar.specs.declared.Start.{Start}
 use Rattle.grammar.specs.declared.Start.TheVariants.{Begins, Barred, Opens, Unfit}
 use Rattle.grammar.specs.Move.{Move}
+use Rattle.grammar.specs.Parsed.{Parsed}
 use Rattle.grammar.specs.declared.Link.{Link}
 use Rattle.grammar.specs.declared.Link.TheVariants as N
 use Rattle.parser.specs.declared.State.{State}
@@ -28,7 +29,7 @@ use Rattle.parser.specs.declared.Frame.TheVariants as F
 use Rattle.parser.specs.declared.Action.{Action}
 use Rattle.parser.specs.declared.Action.TheVariants.{Put, Push, Go, Done}
 use Rattle.grammar.specs.Leaves.{is_with, start_of, move_of}
-use Rattle.grammar.specs.Grammar.{unexpected, link_of}
+use Rattle.grammar.specs.Grammar.{unexpected, link_of, blank}
 
 -- what fits 16 bits
 abbrev pub Small : Span → Type 0
@@ -56,7 +57,7 @@ SmallFound (Some j) = j < 65536
 SmallFound None = Unit {0}
 
 abbrev pub SmallStep : Option Got → Type 0
-SmallStep (Some g) = SmallToken g.token × Small g.span
+SmallStep (Some g) = SmallToken g.token × Small g.span × (g.span.start < 60000)
 SmallStep None = Unit {0}
 
 abbrev pub is_expecting : Before → Bool
@@ -171,3 +172,17 @@ kind_of F.Bottom = K.Or
 kind_of F.And = K.And
 kind_of F.Or = K.Or
 kind_of (F.Open p) = K.Or
+
+-- what is answered where the nodes are set in an array that is lent: their count, or a refusal
+abbrev pub with_nodes : Result ℕ Refusal → List Node → Parsed
+with_nodes (Ok n) q = Ok (record { count = n; nodes = q })
+with_nodes (Err r) q = Err r
+
+abbrev pub told_count : Parsed → Result ℕ Refusal
+told_count (Ok p) = Ok p.count
+told_count (Err r) = Err r
+
+-- the nodes that are left there. Document 01: "A refused parse returns zero nodes"
+abbrev pub left_nodes : Parsed → List Node
+left_nodes (Ok p) = p.nodes
+left_nodes (Err r) = replicate 127 blank

@@ -1,15 +1,15 @@
 // From tokens to nodes: the stack reader, a token at a time.
 #![tactic(auto)]
 
-ghost use Rattle.std.specs.Prelude.{◌≡◌, ◌<◌, length, Some, Ok, Err};
+ghost use Rattle.std.specs.Prelude.{◌≡◌, ◌<◌, length, replicate, Some, Ok, Err};
 ghost use Rattle.refusal.specs.Refused.{span};
 ghost use Rattle.lexer.specs.Lex.{check_of};
 ghost use Rattle.lexer.specs.Tokens.{tokens_of};
 ghost use Rattle.grammar.specs.declared.Before.TheVariants.{Added};
 ghost use Rattle.grammar.specs.declared.Start.TheVariants.{Begins};
 ghost use Rattle.grammar.specs.Leaves.{range_of, part_of, ref_leaf, with_listed, with_ref, expected_after, takes_with, is_with, name_start, start_of, later_move, with_after, gnu_move, plus_move, plus_after, tail_move, add_move, move_of};
-ghost use Rattle.grammar.specs.Grammar.{unexpected, link_of, read, parse_of, answer_of};
-ghost use Rattle.parser.specs.Turn.{Small, SmallPart, SmallToken, SmallFound, SmallStep, is_expecting, rank_by, rank_after, rank_of, level, pops_of, kind_of, leaf_action, open_action, start_action, push_action, close_action, link_action, move_action, token_action, finish_action, end_action, turn_of};
+ghost use Rattle.grammar.specs.Grammar.{unexpected, link_of, blank, read, parse_of, answer_of};
+ghost use Rattle.parser.specs.Turn.{Small, SmallPart, SmallToken, SmallFound, SmallStep, is_expecting, rank_by, rank_after, rank_of, level, pops_of, kind_of, leaf_action, open_action, start_action, push_action, close_action, link_action, move_action, token_action, finish_action, end_action, turn_of, with_nodes, told_count, left_nodes};
 
 pub use grammar::{Addition, Leaf, Licence, Node, Nodes, Parsed, Part, Range};
 use grammar::{Before, Link, Move, Start};
@@ -520,13 +520,12 @@ fn operator(frame: Frame) -> Node
     }
 }
 
-// The stack reader, of a text that was checked.
-fn read_tokens(m: Mode, s: &[u8]) -> Parsed
-    requires { check_of s.now ≡ Ok tt }
-    ensures { result ≡ answer_of (read m (length s.now) (tokens_of s.now m 0)) }
+// The stack reader, of a text that was checked, over blank nodes that are lent: how many it has set.
+fn set_nodes(m: Mode, s: &[u8], nodes: &mut [Node; 127]) -> Result<usize, Refusal>
+    requires { (check_of s.now ≡ Ok tt) × (nodes.old ≡ replicate 127 blank) }
+    ensures { with_nodes result nodes.new ≡ answer_of (read m (length s.now) (tokens_of s.now m 0)) }
 {
     let e = s.len();
-    let mut nodes = [Node::Blank; 127];
     let mut stack = [Frame::Bottom; 97];
     let mut leaf = Leaf {
         licence: Licence::Listed(0),
@@ -568,10 +567,33 @@ fn read_tokens(m: Mode, s: &[u8]) -> Parsed
                 st = next;
             }
             Action::Done => {
-                return Ok(Nodes { count, nodes });
+                return Ok(count);
             }
         }
     }
+}
+
+// The same: a refused text leaves no nodes.
+fn fill_nodes(m: Mode, s: &[u8], nodes: &mut [Node; 127]) -> Result<usize, Refusal>
+    requires { (check_of s.now ≡ Ok tt) × (nodes.old ≡ replicate 127 blank) }
+    ensures { (result ≡ told_count (answer_of (read m (length s.now) (tokens_of s.now m 0))))
+        × (nodes.new ≡ left_nodes (answer_of (read m (length s.now) (tokens_of s.now m 0)))) }
+{
+    let read = set_nodes(m, s, nodes);
+    if read.is_err() {
+        *nodes = [Node::Blank; 127];
+    }
+    read
+}
+
+// The stack reader, of a text that was checked.
+fn read_tokens(m: Mode, s: &[u8]) -> Parsed
+    requires { check_of s.now ≡ Ok tt }
+    ensures { result ≡ answer_of (read m (length s.now) (tokens_of s.now m 0)) }
+{
+    let mut nodes = [Node::Blank; 127];
+    let count = fill_nodes(m, s, &mut nodes)?;
+    Ok(Nodes { count, nodes })
 }
 
 // A text in any mode: its nodes, or why it has none.

@@ -6,4 +6,4 @@ pub loop-i-init : goal.loop-i-init
 loop-i-init c = recorded_start c.args.nodes.now c.args.out.now
 
 pub loop-i-preserved : goal.loop-i-preserved
-loop-i-preserved c = recorded_on c.args.nodes.now c.args.out.now _ _ c.loop-i.i _ (omega arith) c.requires c.put_node.ensures c.loop-i.invariant
+loop-i-preserved c = recorded_on c.args.nodes.now c.args.out.now _ _ c.loop-i.i _ (omega arith) (omega arith) c.put_node.ensures c.loop-i.invariant

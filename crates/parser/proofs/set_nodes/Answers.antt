@@ -15,15 +15,15 @@ use Rattle.parser.specs.Arrays.{
   ends,
   fails,
 }
-use Rattle.parser.proofs.read_tokens.Goals as goal
+use Rattle.parser.proofs.set_nodes.Goals as goal
 
 pub loop-step-init : goal.loop-step-init
-loop-step-init c = begins c.args.s.now c.args.m _
+loop-step-init c = rw c.requires.1 (begins c.args.s.now c.args.m _)
 
 pub returns-in_err-step : goal.returns-in_err-step
 returns-in_err-step c =
     let p = passed c.from_residual.result c.from_residual.ensures.1 in
-    p ∙ refuses _ _ _ (sym c.in_err-step.was ∙ c.scan.ensures) c.loop-step.invariant
+    rw p (refuses _ _ _ (sym c.in_err-step.was ∙ c.scan.ensures) c.loop-step.invariant)
 
 pub loop-ends-init : goal.loop-ends-init
 loop-ends-init c = taken _ _ _ _ (sym c.in_ok-step.was ∙ c.scan.ensures) c.rank-ends.ensures c.loop-step.invariant
@@ -52,16 +52,16 @@ bounds-stack-sp-in-loop-step c = (mid_sizes _ _ c.loop-ends.invariant).0
 pub turn-requires : goal.turn-requires
 turn-requires c =
     let i = c.loop-ends.invariant in
-    (mid_small _ _ i c.requires, omega (arith, (mid_sizes _ _ i).0), omega (arith, (mid_sizes _ _ i).1))
+    (mid_small _ _ i c.requires.0, omega (arith, (mid_sizes _ _ i).0), omega (arith, (mid_sizes _ _ i).1))
 
 pub returns-in_err-l : goal.returns-in_err-l
 returns-in_err-l c =
     let p = passed c.from_residual-in_err-l.result c.from_residual-in_err-l.ensures.1 in
-    p ∙ fails _ _ c.loop-ends.invariant _
-    (turned _ _ c.loop-ends.invariant _ c.pops.ensures c.loop-ends-test.false _ _ c.turn.ensures c.in_err-l.was)
+    rw p (fails _ _ c.loop-ends.invariant _
+    (turned _ _ c.loop-ends.invariant _ c.pops.ensures c.loop-ends-test.false _ _ c.turn.ensures c.in_err-l.was))
 
-pub overflow_sub-nodes : goal.overflow_sub-nodes
-overflow_sub-nodes c = omega (arith, (turned _ _ c.loop-ends.invariant _ c.pops.ensures c.loop-ends-test.false _ _ c.turn.ensures (c.in_ok-l.was ∙ ap Ok c.in-Put.is)).some)
+pub overflow_sub-next : goal.overflow_sub-next
+overflow_sub-next c = omega (arith, (turned _ _ c.loop-ends.invariant _ c.pops.ensures c.loop-ends-test.false _ _ c.turn.ensures (c.in_ok-l.was ∙ ap Ok c.in-Put.is)).some)
 
 pub offset_bounds-nodes-next : goal.offset_bounds-nodes-next
 offset_bounds-nodes-next c = omega (arith, (turned _ _ c.loop-ends.invariant _ c.pops.ensures c.loop-ends-test.false _ _ c.turn.ensures (c.in_ok-l.was ∙ ap Ok c.in-Put.is)).room)

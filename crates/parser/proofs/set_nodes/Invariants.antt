@@ -3,7 +3,7 @@
 use Rattle.std.proofs.Common.{length, ◌-◌}
 use Rattle.parser.specs.Turn.{state, level}
 use Rattle.parser.specs.Arrays.{Inv, Mid}
-use Rattle.parser.proofs.read_tokens.Given as goal
+use Rattle.parser.proofs.set_nodes.Given as goal
 
 abbrev pub invariant-loop-step : goal.invariant-loop-step
 invariant-loop-step l = Inv l.s l.m l.nodes l.stack l.leaf l.st
