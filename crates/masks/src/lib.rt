@@ -5,6 +5,7 @@ ghost use Rattle.std.specs.Prelude.{◌≡◌, false, ◌+◌, ◌^◌, ◌<◌,
 ghost use Rattle.text.specs.First.{first};
 ghost use Rattle.masks.specs.Masks.{spare, minimal, searched, settled, listed, chosen};
 ghost use Rattle.masks.specs.Value.{step, value};
+ghost use Rattle.masks.specs.declared.Node.TheVariants.{And, Or};
 
 use refusal::Refusal;
 
@@ -35,14 +36,30 @@ pub enum Listing {
     Finished(u64),
 }
 
+// AND of the two answers on top: their product, on what is below.
+fn both(st: u64) -> u64
+    ensures { result ≡ step And 0 st }
+{
+    st / 4 * 2 + st / 2 % 2 * (st % 2)
+}
+
+// OR of the two answers on top: where the first fails, the second decides.
+fn either(st: u64) -> u64
+    ensures { result ≡ step Or 0 st }
+{
+    if st % 2 == 1 { st / 4 * 2 + 1 } else { st / 2 }
+}
+
 // One node more: the stack of answers is the bits of st, the lowest on top.
+// The leaf's arm stands last, so that it falls through to the end of the loop around it: most nodes are leaves.
+#[tactic(auto, unfolding(crate::specs::Value::step))]
 fn next(node: Node, mask: u64, st: u64) -> u64
     ensures { result ≡ step node mask st }
 {
     match node {
+        Node::And => both(st),
+        Node::Or => either(st),
         Node::Leaf(met) => st % ROOM * 2 + u64::from(met & mask != 0),
-        Node::And => st / 4 * 2 + u64::from(st % 4 == 3),
-        Node::Or => st / 4 * 2 + u64::from(st % 4 != 0),
     }
 }
 
@@ -50,7 +67,11 @@ fn next(node: Node, mask: u64, st: u64) -> u64
 fn evaluate(nodes: &[Node], mask: u64) -> bool
     ensures { result ≡ value nodes.now mask }
 {
-    nodes.iter().fold(0, |st, x| next(*x, mask, st)) % 2 == 1
+    let mut st = 0;
+    for x in nodes {
+        st = next(*x, mask, st);
+    }
+    st % 2 == 1
 }
 
 // Licensee i is in the set and not needed there.

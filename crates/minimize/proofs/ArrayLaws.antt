@@ -9,7 +9,7 @@ use Rattle.grammar.specs.declared.Leaf.{Leaf}
 use Rattle.licensee.specs.declared.Terms.{Terms}
 use Rattle.licensee.specs.Terms.{terms_of, SmallLicence, SmallAddition, same_terms, meets}
 use Rattle.masks.specs.Value.{digit}
-use Rattle.minimize.specs.Posed.{node_terms, leaf_terms, SmallNode, SmallNodes, bits, found_terms, found_places, mask_of}
+use Rattle.minimize.specs.Posed.{own_terms, leaf_terms, SmallNode, SmallNodes, bits, found_terms, found_places, mask_of}
 use Rattle.minimize.proofs.ListLaws.{found_snoc, places_snoc, bits_lt, bits_snoc}
 
 -- the leaves of nodes one behind the other
@@ -17,14 +17,14 @@ pub leaves_append : (q r : List Node) → leaf_terms (q ++ r) ≡ leaf_terms q +
 unfolding leaf_terms
 leaves_append [] r = refl
 leaves_append (x ∷ q) r =
-    ap (λ (l : List Terms). node_terms x ++ l) (leaves_append q r) ∙ sym (append_assoc (node_terms x) (leaf_terms q) (leaf_terms r))
+    ap (λ (l : List Terms). own_terms x ++ l) (leaves_append q r) ∙ sym (append_assoc (own_terms x) (leaf_terms q) (leaf_terms r))
 
 small_snoc : (q : List Node) (x : Node) → SmallNodes q → SmallNode x → SmallNodes (q ++ (x ∷ []))
 small_snoc [] x h k = (k, tt)
 small_snoc (y ∷ q) x h k = (h.0, small_snoc q x h.1 k)
 
 -- a node that is no leaf
-no_leaf : (k : Node) → ((x : Leaf) → k ≡ K.Leaf x → ⊥) → (node_terms k ≡ []) × SmallNode k
+no_leaf : (k : Node) → ((x : Leaf) → k ≡ K.Leaf x → ⊥) → (own_terms k ≡ []) × SmallNode k
 no_leaf K.Blank n = (refl, tt)
 no_leaf (K.Leaf x) n = absurd (n x refl)
 no_leaf K.And n = (refl, tt)
@@ -39,18 +39,18 @@ module _
     abbrev More : List Terms → Type 0
     More us = (us ≡ leaf_terms (take (i + 1) nodes)) × SmallNodes (take (i + 1) nodes)
 
-    node_more : (us : List Terms) → node_terms (get_or nodes i d) ≡ us → SmallNode (get_or nodes i d) → More (ts ++ us)
+    node_more : (us : List Terms) → own_terms (get_or nodes i d) ≡ us → SmallNode (get_or nodes i d) → More (ts ++ us)
     unfolding leaf_terms
     node_more us k s =
         let x = get_or nodes i d in
-        let w : leaf_terms (x ∷ []) ≡ us = append-nil (node_terms x) ∙ k in (
+        let w : leaf_terms (x ∷ []) ≡ us = append-nil (own_terms x) ∙ k in (
           rw (e, ← w) (sym (ap leaf_terms (take_more nodes i d h) ∙ leaves_append (take i nodes) (x ∷ []))),
           subst SmallNodes (sym (take_more nodes i d h)) (small_snoc (take i nodes) x small s),
         )
 
     pub leaf_more : (x : Leaf) (t : Terms) → get_or nodes i d ≡ K.Leaf x → t ≡ terms_of x.licence x.addition
         → SmallLicence x.licence × SmallAddition x.addition → More (ts ++ (t ∷ []))
-    leaf_more x t k u s = node_more (t ∷ []) (ap node_terms k ∙ ap (λ (z : Terms). z ∷ []) (sym u)) (subst SmallNode (sym k) s)
+    leaf_more x t k u s = node_more (t ∷ []) (ap own_terms k ∙ ap (λ (z : Terms). z ∷ []) (sym u)) (subst SmallNode (sym k) s)
 
     pub none_more : ((x : Leaf) → get_or nodes i d ≡ K.Leaf x → ⊥) → More ts
     none_more n = let w = no_leaf _ n in subst More (append-nil ts) (node_more [] w.0 w.1)

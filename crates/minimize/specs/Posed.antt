@@ -18,15 +18,15 @@ use Rattle.minimize.specs.declared.Posed.{Posed}
 use Rattle.minimize.specs.Minimize.{found_after, found_at, of_list, Problem, refused, posed, pose_of, Places, unplaced, placed, place_of}
 
 -- the terms of the leaves among nodes
-abbrev pub node_terms : Node → List Terms
-node_terms K.Blank = []
-node_terms (K.Leaf x) = terms_of x.licence x.addition ∷ []
-node_terms K.And = []
-node_terms K.Or = []
+abbrev pub own_terms : Node → List Terms
+own_terms K.Blank = []
+own_terms (K.Leaf x) = terms_of x.licence x.addition ∷ []
+own_terms K.And = []
+own_terms K.Or = []
 
 unfoldable pub leaf_terms : List Node → List Terms
 leaf_terms [] = []
-leaf_terms (x ∷ q) = node_terms x ++ leaf_terms q
+leaf_terms (x ∷ q) = own_terms x ++ leaf_terms q
 
 abbrev pub SmallNode : Node → Type 0
 SmallNode K.Blank = Unit {0}
