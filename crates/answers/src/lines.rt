@@ -50,19 +50,13 @@ impl Lines {
         Ok(())
     }
 
-    // Takes in one byte.
-    fn take(&mut self, rt: &impl Print, b: u8) -> io::Result<()> {
-        if b == b'\n' {
-            return self.end(rt);
-        }
-        self.line.byte(b);
-        Ok(())
-    }
-
-    // Takes in a chunk, and writes what was answered.
+    // Takes in a chunk, and writes what was answered. A line ends in front of each part of the chunk but the first.
     fn take_all(&mut self, rt: &impl Print, chunk: &[u8]) -> io::Result<()> {
-        for b in chunk {
-            self.take(rt, *b)?;
+        for (i, part) in chunk.split(|b| *b == b'\n').enumerate() {
+            if 0 < i {
+                self.end(rt)?;
+            }
+            self.line.bytes(part);
         }
         self.flush(rt)
     }

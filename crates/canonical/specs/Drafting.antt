@@ -108,6 +108,13 @@ module _ (s b : List ℕ) (at n : ℕ) (c : List ℕ) (i : Drafting s b at n c) 
     comes : Outcome s b at n (turn_of s n st) (overlay n (step_piece s st) c)
     comes = turn_comes (step_piece s st) (turn_of s n st) by_step
 
+    -- the same of a turn and a buffer that are known to be these
+    pub drafting_turn : (t : Turn) (d : List ℕ) → (t ≡ turn_of s n st) × (d ≡ overlay n (step_piece s st) c) → (u : Turn) → t ≡ u
+        → Outcome s b at n u d
+    drafting_turn t d w u g =
+        subst (Outcome s b at n u) (sym w.1)
+        (turn_comes (step_piece s st) u (subst (Turned s at n (step_piece s st)) (sym w.0 ∙ g) by_step))
+
   module _ (m : Mode) (f : m ≡ lax) where
     pub drafting_done : scan_of s m at ≡ Ok None → Drafted (canonical_of s) (Ok n) c
     drafting_done e = subst (Outcome s b at n (Ok None)) (overlay_none n c) (comes m f (Ok None) e)

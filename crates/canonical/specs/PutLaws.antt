@@ -17,14 +17,14 @@ use Rattle.canonical.specs.Turn.{goes, plus_at, licence_piece, licence_next}
 -- A listed licence, in the words of the table.
 
 -- a bare GNU name alone
-alone_only : (k j : ℕ) → only_of k ≡ Some j → (j < length rows) × (name_at j ≡ alone k)
+pub alone_only : (k j : ℕ) → only_of k ≡ Some j → (j < length rows) × (name_at j ≡ alone k)
 unfolding alone
 alone_only k j e =
     let p = only_partner k j e in
     (omega (counts, p.within), licence_row j p.within ∙ only_name k j e ∙ rw (only_bare k j e))
 
 -- any other name alone
-alone_itself : (k : ℕ) → k < length listed → only_of k ≡ None → name_at k ≡ alone k
+pub alone_itself : (k : ℕ) → k < length listed → only_of k ≡ None → name_at k ≡ alone k
 unfolding alone
 alone_itself k h e = licence_row k h ∙ rw (no_only_settled k e) (sym (append-nil (licence_name k)))
 

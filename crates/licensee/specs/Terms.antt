@@ -103,6 +103,11 @@ abbrev pub accepted_of : Accepts → Result Accepted Refusal
 accepted_of (good ls) = Ok (record { count = length ls; terms = padded (map offered_terms ls) })
 accepted_of (wrong r) = Err r
 
+-- what is answered where the licensees are written into lent terms
+abbrev pub told : Result ℕ Refusal → List Terms → Result Accepted Refusal
+told (Ok n) ts = Ok (record { count = n; terms = ts })
+told (Err r) ts = Err r
+
 -- the places of all licensees fit 16 bits
 abbrev pub SmallAll : List Licensee → Type 0
 SmallAll [] = Unit {0}

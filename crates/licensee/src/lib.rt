@@ -1,11 +1,11 @@
 // The accept list: its file, its entries as parts of the caller's file, and what a licensee satisfies.
 #![tactic(auto)]
 
-ghost use Rattle.std.specs.Prelude.{◌≡◌, ◌+◌, ◌*◌, ◌<◌, ◌≤◌, length};
+ghost use Rattle.std.specs.Prelude.{◌≡◌, ◌+◌, ◌*◌, ◌<◌, ◌≤◌, length, replicate};
 ghost use Rattle.lexer.specs.Tokens.{tokens_of};
 ghost use Rattle.mode.specs.Modes.{strict};
 ghost use Rattle.licensee.specs.Offers.{range_from, part_from, name_in, licence_in, addition_in, behind_with, behind_licence, body_of, at16, offer_of, entries_from, contents, list_of, checked_of, entry_of, entry_at, place_of};
-ghost use Rattle.licensee.specs.Terms.{range_number, reference_term, licence_term, addition_term, terms_of, SmallRange, SmallPart, SmallLicence, SmallAddition, same_names, same_documents, same_term, same_terms, meets, accepted_of, SmallList, FitsPart, FitsToken};
+ghost use Rattle.licensee.specs.Terms.{range_number, reference_term, licence_term, addition_term, terms_of, SmallRange, SmallPart, SmallLicence, SmallAddition, same_names, same_documents, same_term, same_terms, meets, blank, accepted_of, told, SmallList, FitsPart, FitsToken};
 
 use grammar::{Addition, Licence, Part, Range};
 use lexer::Token;
@@ -334,12 +334,11 @@ fn has_contents(file: &[u8]) -> bool
     1 + 4 * c <= file.len()
 }
 
-// The c entries of a file whose contents are whole.
-fn read_entries(file: &[u8], c: usize) -> Result<Accepted, Refusal>
-    requires { (c ≤ 64) × (1 + 4 * c ≤ length file.now) }
-    ensures { (result ≡ accepted_of (entries_from file.now c 0 (1 + 4 * c))) × SmallList (entries_from file.now c 0 (1 + 4 * c)) }
+// The c entries of a file whose contents are whole, in blank terms that are lent, so that no array is copied on the way.
+fn read_entries(file: &[u8], c: usize, terms: &mut [Terms; 64]) -> Result<usize, Refusal>
+    requires { (c ≤ 64) × (1 + 4 * c ≤ length file.now) × (terms.old ≡ replicate 64 blank) }
+    ensures { (told result terms.new ≡ accepted_of (entries_from file.now c 0 (1 + 4 * c))) × SmallList (entries_from file.now c 0 (1 + 4 * c)) }
 {
-    let mut terms = [BLANK; 64];
     let mut a = 1 + 4 * c;
     for i in 0..c {
         let n = get16(file, 3 + 4 * i);
@@ -350,26 +349,37 @@ fn read_entries(file: &[u8], c: usize) -> Result<Accepted, Refusal>
     if a != file.len() {
         return Err(Refusal::BadList(254));
     }
-    Ok(Accepted { count: c, terms })
+    Ok(c)
+}
+
+// The entries of a file, in blank terms that are lent: how many.
+fn read_into(file: &[u8], terms: &mut [Terms; 64]) -> Result<usize, Refusal>
+    requires { terms.old ≡ replicate 64 blank }
+    ensures { (told result terms.new ≡ accepted_of (list_of file.now)) × SmallList (list_of file.now) }
+{
+    if has_contents(file) {
+        read_entries(file, file[0] as usize, terms)
+    } else {
+        Err(Refusal::BadList(255))
+    }
 }
 
 // The licensees of a file as numbers: for who looks for some of them.
 pub fn read(file: &[u8]) -> Result<Accepted, Refusal>
     ensures { (result ≡ accepted_of (list_of file.now)) × SmallList (list_of file.now) }
 {
-    if has_contents(file) {
-        read_entries(file, file[0] as usize)
-    } else {
-        Err(Refusal::BadList(255))
-    }
+    let mut terms = [BLANK; 64];
+    let count = read_into(file, &mut terms)?;
+    Ok(Accepted { count, terms })
 }
 
 // How many entries a list file has, or what is wrong with it.
 pub fn check(file: &[u8]) -> Result<usize, Refusal>
     ensures { result ≡ checked_of (list_of file.now) }
 {
-    let x = read(file)?;
-    Ok(x.count)
+    let mut terms = [BLANK; 64];
+    let count = read_into(file, &mut terms)?;
+    Ok(count)
 }
 
 // Where the body of an entry stands in the file: nowhere, at its start, where the file is wrong or has no such entry.

@@ -1,7 +1,8 @@
 // What a program writes, piece by piece, into an array, as far as there is room.
 #![tactic(auto)]
 
-ghost use Rattle.std.specs.Prelude.{◌≡◌, ℕ, ◌≤◌, List, [], ◌∷◌, ◌++◌, length, take, replicate};
+ghost use Rattle.std.specs.Prelude.{◌≡◌, ℕ, ◌≤◌, List, [], ◌∷◌, replicate};
+ghost use Rattle.out.specs.Written.{nothing, front, count, put_behind};
 
 use std::marker::Model;
 
@@ -16,7 +17,7 @@ pub struct Out<const ROOM: usize> {
 impl<const ROOM: usize> Model for Out<ROOM> {
     ghost Value = { List ℕ };
 
-    ghost view = { λ o. take o.len o.bytes };
+    ghost view = { λ o. front o.len o.bytes };
 
     ghost invariant = { λ o. o.len ≤ ROOM };
 }
@@ -24,7 +25,7 @@ impl<const ROOM: usize> Model for Out<ROOM> {
 impl<const ROOM: usize> Out<ROOM> {
     // Nothing is written yet.
     pub fn new() -> Self
-        ensures { result ≡ [] }
+        ensures { result ≡ nothing }
     {
         Out {
             bytes: [0; ROOM],
@@ -33,7 +34,7 @@ impl<const ROOM: usize> Out<ROOM> {
     }
 
     pub fn len(&self) -> usize
-        ensures { result ≡ length self.now }
+        ensures { result ≡ count self.now }
     {
         self.written().len()
     }
@@ -45,14 +46,14 @@ impl<const ROOM: usize> Out<ROOM> {
     }
 
     pub fn clear(&mut self)
-        ensures { self.new ≡ [] }
+        ensures { self.new ≡ nothing }
     {
         self.len = 0;
     }
 
     // Puts one byte, if there is room.
     pub fn byte(&mut self, b: u8)
-        ensures { self.new ≡ take ROOM (self.old ++ b ∷ []) }
+        ensures { self.new ≡ put_behind ROOM self.old (b ∷ []) }
     {
         if self.len < ROOM {
             self.bytes[self.len] = b;
@@ -62,7 +63,7 @@ impl<const ROOM: usize> Out<ROOM> {
 
     // Puts as many of the bytes as there is room for. The part is one of a slice, since none of an array with a const length is lent.
     pub fn bytes(&mut self, s: &[u8])
-        ensures { self.new ≡ take ROOM (self.old ++ s.now) }
+        ensures { self.new ≡ put_behind ROOM self.old s.now }
     {
         let n = (ROOM - self.len).min(s.len());
         let all = &mut self.bytes[..];
@@ -72,7 +73,7 @@ impl<const ROOM: usize> Out<ROOM> {
 
     // Puts one byte several times, as often as there is room.
     pub fn repeat(&mut self, b: u8, times: usize)
-        ensures { self.new ≡ take ROOM (self.old ++ replicate times b) }
+        ensures { self.new ≡ put_behind ROOM self.old (replicate times b) }
     {
         let n = (ROOM - self.len).min(times);
         let all = &mut self.bytes[..];

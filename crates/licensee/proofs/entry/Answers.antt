@@ -13,10 +13,10 @@ pub slice_bounds-result-count : goal.slice_bounds-result-count
 slice_bounds-result-count c = omega (arith, (lies _ _ _ c.place-p.ensures).0)
 
 pub slice_bounds-result-start : goal.slice_bounds-result-start
-slice_bounds-result-start c = (lies _ _ _ c.place-p.ensures).0
+slice_bounds-result-start c = omega (arith, (lies _ _ _ c.place-p.ensures).0)
 
 pub slice_bounds-result-end : goal.slice_bounds-result-end
-slice_bounds-result-end c = (lies _ _ _ c.place-p.ensures).1
+slice_bounds-result-end c = omega (arith, (lies _ _ _ c.place-p.ensures).0, (lies _ _ _ c.place-p.ensures).1)
 
 pub returns : goal.returns
 unfolding part

@@ -4,7 +4,7 @@ use Rattle.licensee.proofs.FileLaws.{walk_start, walk_on, walk_wrong, walk_after
 use Rattle.licensee.proofs.read_entries.Goals as goal
 
 pub loop-i-init : goal.loop-i-init
-loop-i-init c = walk_start _ _ c.requires.0
+loop-i-init c = rw c.requires.2 (walk_start _ _ c.requires.0)
 
 pub offer-requires : goal.offer-requires
 offer-requires c = (omega arith, omega (arith, c.loop-i.invariant.due), c.get16-n.ensures.0)
@@ -13,7 +13,7 @@ pub returns-in_err-l : goal.returns-in_err-l
 returns-in_err-l c =
     let e = walk_wrong c.loop-i.invariant _ c.loop-i-test.true (sym c.offer.ensures ∙ c.in_err-l.was) in
     let r : c.from_residual.result ≡ Err c.in_err-l.field-0.0 = search rules in
-    (r ∙ ap accepted_of (sym e), rw e tt)
+    (rw r (ap accepted_of (sym e)), rw e tt)
 
 pub overflow_add-a-in-loop-i : goal.overflow_add-a-in-loop-i
 overflow_add-a-in-loop-i c = omega (arith, c.loop-i.invariant.due)

@@ -2,7 +2,7 @@
 use Rattle.std.proofs.Common.{sym, ap, ◌∙◌, arith}
 use Rattle.licensee.specs.Terms.{accepted_of}
 use Rattle.licensee.proofs.FileLaws.{contents_are, list_entries, list_cut}
-use Rattle.licensee.proofs.read.Goals as goal
+use Rattle.licensee.proofs.read_into.Goals as goal
 
 pub bounds-file-0 : goal.bounds-file-0
 bounds-file-0 c = omega (arith, (contents_are _ (sym c.has_contents.ensures ∙ c.if-has_contents.true)).some)
@@ -10,7 +10,7 @@ bounds-file-0 c = omega (arith, (contents_are _ (sym c.has_contents.ensures ∙ 
 pub read_entries-requires : goal.read_entries-requires
 read_entries-requires c =
     let w = contents_are _ (sym c.has_contents.ensures ∙ c.if-has_contents.true) in
-    (w.few, w.table)
+    (w.few, w.table, c.requires)
 
 pub returns-then-has_contents : goal.returns-then-has_contents
 returns-then-has_contents c =
