@@ -17,13 +17,14 @@ use Rattle.masks.specs.declared.Node.TheVariants as M
 use Rattle.minimize.specs.declared.Posed.{Posed}
 use Rattle.minimize.specs.Minimize.{found_after, found_at, of_list, Problem, refused, posed, pose_of, Places, unplaced, placed, place_of}
 
--- the terms of the leaves among nodes
+-- the terms of a leaf; another node has none
 abbrev pub own_terms : Node → List Terms
 own_terms K.Blank = []
 own_terms (K.Leaf x) = terms_of x.licence x.addition ∷ []
 own_terms K.And = []
 own_terms K.Or = []
 
+-- the terms of the leaves among nodes
 unfoldable pub leaf_terms : List Node → List Terms
 leaf_terms [] = []
 leaf_terms (x ∷ q) = own_terms x ++ leaf_terms q

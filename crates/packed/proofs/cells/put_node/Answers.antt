@@ -7,4 +7,4 @@ loop-i-init c = writing_start c.args.at c.of_node-p.result c.args.out.now
 
 pub loop-i-preserved : goal.loop-i-preserved
 loop-i-preserved c =
-    writing_on c.args.at c.of_node-p.result c.args.out.now c.loop-i.out c.loop-i.i _ (omega (arith, c.requires)) (omega arith) refl c.loop-i.invariant
+    writing_on c.args.at c.of_node-p.result c.args.out.now c.loop-i.out c.loop-i.i _ (omega arith) (omega arith) refl c.loop-i.invariant
